@@ -1,0 +1,4 @@
+pub mod Rows
+pub mod Paths
+pub mod Keys
+pub mod Formulas

@@ -1,0 +1,9 @@
+pub mod Places
+pub mod Adds
+pub mod Writes
+pub mod Joins
+pub mod Loads
+pub mod Steps
+pub mod Turns
+pub mod Readies
+pub mod Serves

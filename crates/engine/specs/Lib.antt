@@ -1,0 +1,4 @@
+pub mod Matrices
+pub mod Blocks
+pub mod Plain
+pub mod Runs

@@ -1,0 +1,4 @@
+pub mod Totals
+pub mod Runs
+pub mod Counts
+pub mod Lists

@@ -1,0 +1,4 @@
+pub mod Questions
+pub mod Shifts
+pub mod Places
+pub mod Weights
