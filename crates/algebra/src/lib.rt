@@ -1,4 +1,6 @@
 // Algebras: elements with a sum, a product, a zero and a one.
+#![tactic(auto)]
+
 ghost use Rattle.std.specs.Prelude.{◌≡◌, Bool, true, false, ◌≢◌};
 ghost use Rattle.algebra.specs.Laws.{Ops, Laws};
 

@@ -1,4 +1,6 @@
 // Two algebras whose elements are single numbers: bits, and counts modulo 4,294,967,296.
+#![tactic(auto)]
+
 mod bit;
 mod count;
 

@@ -1,4 +1,6 @@
 // Survivors: of the paths from one state to another, the least by length, cost and word.
+#![tactic(auto)]
+
 ghost use Rattle.std.specs.Prelude.{◌≡◌, true};
 ghost use Rattle.algebra_survivor.specs.Survivors.{Path, path_ops, row_ranged, path_of, normal_of, normal_row, key_of};
 ghost use Rattle.algebra_survivor.specs.Formulas.{Formulas};

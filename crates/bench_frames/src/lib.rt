@@ -1,4 +1,6 @@
 // Whole frames of k7 for the benchmark, as functions that C can call.
+#![tactic(auto)]
+
 ghost use Rattle.std.specs.Prelude.{◌≡◌, length};
 ghost use Rattle.code.specs.Codes.{k7};
 ghost use Rattle.frame_rows.specs.Traces.{Decoded};

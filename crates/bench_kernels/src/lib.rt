@@ -1,4 +1,6 @@
 // The engine's kernels for the benchmark, as functions that C can call.
+#![tactic(auto)]
+
 ghost use Rattle.std.specs.Prelude.{◌≡◌, length};
 ghost use Rattle.engine.specs.Matrices.{Multiplied};
 ghost use Rattle.bench_kernels.specs.Kernels.{Took, multiplying, status_of, survivors, taking};

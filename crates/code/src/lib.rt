@@ -1,4 +1,6 @@
 // Convolutional codes of rate 1/2: their names, their branches, and what a branch costs.
+#![tactic(auto)]
+
 ghost use Rattle.std.specs.Prelude.{◌≡◌};
 ghost use Rattle.code.specs.Codes.{named};
 

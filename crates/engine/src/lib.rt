@@ -1,4 +1,6 @@
 // The engine: matrices, blocks, plans and runs, written once for every algebra.
+#![tactic(auto)]
+
 mod block;
 mod matrix;
 mod product;

@@ -1,4 +1,6 @@
 // Frames: the decoder that answers the cheapest path to a state.
+#![tactic(auto)]
+
 ghost use Rattle.std.specs.Prelude.{◌≡◌, ℕ, ◌<◌, length, Some, None};
 ghost use Rattle.frame_rows.specs.Traces.{state_total};
 ghost use Rattle.frame.specs.Frames.{Took, Traced};

@@ -1,4 +1,6 @@
 // Path metrics: the total of the best path to each state, and letter a, which carries them over a block.
+#![tactic(auto)]
+
 mod metrics;
 mod offer;
 mod select;

@@ -1,4 +1,6 @@
 // What survivors say of paths, and which path is decoded.
+#![tactic(auto)]
+
 ghost use Rattle.frame_paths.specs.Paths.{OneCheapest};
 ghost use Rattle.frame_paths.specs.Survivors.{SurvivorsBest};
 

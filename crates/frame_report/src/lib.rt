@@ -1,4 +1,6 @@
 // The report of a frame decoder: what it prints for the bytes of an input.
+#![tactic(auto)]
+
 ghost use Rattle.std.specs.Prelude.{◌≡◌, IfOk, string_bytes};
 ghost use Rattle.frame_report.specs.Report.{Printed, coded};
 

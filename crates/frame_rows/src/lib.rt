@@ -1,4 +1,6 @@
 // Rows in a lent store of words, and their trace back to the input bits of a frame.
+#![tactic(auto)]
+
 ghost use Rattle.std.specs.Prelude.{◌≡◌, ◌+◌, ◌*◌, ◌<◌, ◌≤◌, true, length, nat_le};
 ghost use Rattle.code.specs.Codes.{input, states};
 ghost use Rattle.refusal.specs.Questions.{asked};

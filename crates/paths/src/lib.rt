@@ -1,4 +1,6 @@
 // What the count trellis counts.
+#![tactic(auto)]
+
 ghost use Rattle.paths.specs.Theorems.{PathsCounted};
 
 // Single steps of the count trellis count the admitted paths.

@@ -1,4 +1,6 @@
 // Plans: lines of letters that say which neighbouring matrices are joined first.
+#![tactic(auto)]
+
 ghost use Rattle.std.specs.Prelude.{◌≡◌, ℕ, ◌+◌, ◌^◌, ◌<◌, ◌≤◌, true, [], ◌∷◌, length, nat_le};
 ghost use Rattle.refusal.specs.Questions.{asked};
 ghost use Rattle.plan.specs.Plans.{after};

@@ -1,5 +1,7 @@
 // Shows the engine at work: the CRC-32 of standard input by blocks under several plans, beside the one by
 // shifting; the nine-stage sequence; and path counts over a list of symbols.
+#![tactic(auto)]
+
 mod plans;
 mod show;
 

@@ -1,4 +1,6 @@
 // Compares frames with what other decoders answer, a frame on each line of standard input.
+#![tactic(auto)]
+
 mod cases;
 mod fields;
 

@@ -1,4 +1,6 @@
 // Decodes a frame of the code k3 from standard input, delivery by delivery.
+#![tactic(auto)]
+
 use frame_report::{BYTES, report};
 use std::io;
 use std::io::Read;

@@ -1,4 +1,6 @@
 // Compares the library with what other software answers, a case on each line of standard input.
+#![tactic(auto)]
+
 mod cases;
 mod fields;
 

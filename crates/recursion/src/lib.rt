@@ -1,4 +1,6 @@
 // Recursions: which symbols move a state of d elements, and by which matrix.
+#![tactic(auto)]
+
 ghost use Rattle.std.specs.Prelude.{Bool, false, ◌⊎◌, ◌≡◌, ℕ, ◌≤◌};
 
 use algebra::Algebra;

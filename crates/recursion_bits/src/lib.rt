@@ -1,4 +1,6 @@
 // Two recursions over bits: the check register, and the sequence of nine stages.
+#![tactic(auto)]
+
 mod register;
 mod sequence;
 

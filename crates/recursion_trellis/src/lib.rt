@@ -1,4 +1,6 @@
 // The trellises of a code as recursions: of its survivors, and of its path counts.
+#![tactic(auto)]
+
 mod count;
 mod survivor;
 

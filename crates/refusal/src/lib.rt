@@ -1,4 +1,6 @@
 // Refusals: the closed list of reasons for which a call says no.
+#![tactic(auto)]
+
 ghost use Rattle.std.specs.Prelude.{◌≡◌};
 ghost use Rattle.refusal.specs.Numbers.{number as numbered, place as placed};
 

@@ -1,4 +1,6 @@
 // The check of a bit list by look-ahead: the check register's run from ones, taken in blocks under a plan.
+#![tactic(auto)]
+
 ghost use Rattle.std.specs.Prelude.{◌≡◌, ◌^◌, ◌<◌, ◌≤◌, not, length, if◌then◌else◌};
 ghost use Rattle.refusal.specs.Questions.{asked};
 ghost use Rattle.run_check.specs.Check.{weigh};

@@ -1,4 +1,6 @@
 // The check of a bit list: the check register's run from ones, computed by shifting a 32-bit number.
+#![tactic(auto)]
+
 ghost use Rattle.std.specs.Prelude.{◌≡◌};
 ghost use Rattle.refusal.specs.Questions.{asked};
 ghost use Rattle.run_check.specs.Check.{bit_questions, register_value, check_value};

@@ -1,4 +1,6 @@
 // The path counter: a run over the count trellis of a code, from 1 at state 0 and 0 at the others.
+#![tactic(auto)]
+
 ghost use Rattle.std.specs.Prelude.{◌≡◌, ℕ, ◌%◌, ◌<◌, ◌≤◌, length, drop};
 ghost use Rattle.algebra.specs.Sums.{at};
 ghost use Rattle.algebra_scalars.specs.Counts.{modulus, residue_of};

@@ -1,4 +1,6 @@
 // The sequence of nine stages: a state of nine bits that is shifted, and the bits that it gives.
+#![tactic(auto)]
+
 ghost use Rattle.std.specs.Prelude.{◌≡◌, ℕ, ◌<◌, ◌≤◌, length, drop};
 ghost use Rattle.refusal.specs.Questions.{asked};
 ghost use Rattle.algebra_scalars.specs.Bits.{bit_ops};

@@ -1,4 +1,6 @@
 // Tests of frames: every plan against a direct search, worked lines, limits and bad input.
+#![tactic(auto)]
+
 #[cfg(test)]
 mod alike;
 #[cfg(test)]

@@ -1,4 +1,6 @@
 // Tests of plans, runs and check values: published vectors, limits and bad input.
+#![tactic(auto)]
+
 #[cfg(test)]
 mod checks;
 #[cfg(test)]
