@@ -11,5 +11,5 @@ returns-in-k3 c = ap Ok (same_code _ k3 refl refl refl) ∙ sym (ap named c.in-k
 pub returns-in-k7 : goal.returns-in-k7
 returns-in-k7 c = ap Ok (same_code _ k7 refl refl refl) ∙ sym (ap named c.in-k7.is)
 
-pub returns-in-default : goal.returns-in-default
-returns-in-default c = search (rules, bytes_eq-Decides)
+pub returns-in_default : goal.returns-in_default
+returns-in_default c = search (rules, bytes_eq-Decides)

@@ -5,18 +5,22 @@ use Rattle.refusal.proofs.Questions.{asked_yes, asked_no}
 use Rattle.plan.specs.Asks.{finds, fits, height, makes}
 use Rattle.plan.proofs.ask_blocks.Goals as goal
 
-pub is-block-requires : goal.is-block-requires
-is-block-requires c =
+pub is_block-requires : goal.is_block-requires
+is_block-requires c =
     let plan = c.args.plan.now in
     let p = c.loop-place.place in
     let served-here : finds plan p ≡ true = c.requires p c.loop-place-test.true in
     let two : 2 ≤ height plan p = grind (arith, nat_tests) in
-    (omega arith, (λ q h. c.requires q (omega arith)), two)
+    record {
+      place_in_bounds = omega arith;
+      by_index = (λ q h. c.requires q (omega arith));
+      bound = two;
+    }
 
-pub returns-then-not-is-block : goal.returns-then-not-is-block
-returns-then-not-is-block c =
+pub returns-then-not-is_block : goal.returns-then-not-is_block
+returns-then-not-is_block c =
     let plan = c.args.plan.now in
-    let large : makes plan c.loop-place.place ≡ false = let e = c.if-not-is-block.ensures in grind (arith, nat_tests) in
+    let large : makes plan c.loop-place.place ≡ false = let e = c.if-not-is_block.ensures in grind (arith, nat_tests) in
     sym (asked_no (fits plan) [] _ c.loop-place.place c.loop-place-test.true large c.loop-place.invariant)
 
 pub returns : goal.returns

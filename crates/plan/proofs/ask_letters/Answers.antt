@@ -5,8 +5,8 @@ use Rattle.refusal.proofs.Questions.{asked_yes, asked_no}
 use Rattle.plan.specs.Asks.{known, knows}
 use Rattle.plan.proofs.ask_letters.Goals as goal
 
-pub returns-in-default : goal.returns-in-default
-returns-in-default c =
+pub returns-in_default : goal.returns-in_default
+returns-in_default c =
     let unknown : known c.args.plan.now c.loop-place.place ≡ false = grind (arith, nat_tests) in
     sym (asked_no (knows c.args.plan.now) [] _ c.loop-place.place c.loop-place-test.true unknown c.loop-place.invariant)
 

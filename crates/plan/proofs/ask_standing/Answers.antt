@@ -8,19 +8,24 @@ use Rattle.plan.proofs.ask_standing.Goals as goal
 pub loop-place-init : goal.loop-place-init
 loop-place-init c = none_counted _
 
-pub returns-then-not-is-served : goal.returns-then-not-is-served
-returns-then-not-is-served c =
+pub returns-then-not-is_served : goal.returns-then-not-is_served
+returns-then-not-is_served c =
     let plan = c.args.plan.now in
-    let short : finds plan c.loop-place.place ≡ false = ap (served (get_or plan c.loop-place.place 0)) (sym c.loop-place.invariant.standing) ∙ sym c.if-not-is-served.ensures in
+    let short : finds plan c.loop-place.place ≡ false = ap (served (get_or plan c.loop-place.place 0)) (sym c.loop-place.invariant.standing) ∙ sym c.if-not-is_served.ensures in
     sym (asked_no (stands plan) [] _ c.loop-place.place c.loop-place-test.true short c.loop-place.invariant.found)
 
 pub with-tally-requires : goal.with-tally-requires
-with-tally-requires c = let i = c.loop-place.invariant in (sym c.if-not-is-served.ensures, search rules, search rules, search rules)
+with-tally-requires c = let i = c.loop-place.invariant in record {
+  standing_value = sym c.if-not-is_served.ensures;
+  singles_bound = search rules;
+  joins_bound = search rules;
+  standing_bound = search rules;
+}
 
 pub loop-place-preserved : goal.loop-place-preserved
 loop-place-preserved c =
     let plan = c.args.plan.now in
-    let found : finds plan c.loop-place.place ≡ true = ap (served (get_or plan c.loop-place.place 0)) (sym c.loop-place.invariant.standing) ∙ sym c.if-not-is-served.ensures in
+    let found : finds plan c.loop-place.place ≡ true = ap (served (get_or plan c.loop-place.place 0)) (sym c.loop-place.invariant.standing) ∙ sym c.if-not-is_served.ensures in
     subst (Counted plan (c.loop-place.place + 1)) (sym c.with-tally.ensures) (counted_next plan c.loop-place.place c.loop-place.tally c.loop-place-test.true c.loop-place.invariant found)
 
 pub returns : goal.returns

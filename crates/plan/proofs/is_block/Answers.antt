@@ -5,7 +5,7 @@ use Rattle.plan.proofs.is_block.Goals as goal
 use Rattle.plan.proofs.is_block.Goals.{then-loop-p-test+then-wanted-gt0+else-found-wanted-le-BLOCK, then-loop-p-test+else-wanted-gt0, else-loop-p-test}
 
 pub loop-p-init : goal.loop-p-init
-loop-p-init c = (omega arith, omega arith, λ i s. record { low = omega arith; stand = c.requires.2; small = omega arith; total = sym (zero-add _) })
+loop-p-init c = (omega arith, omega arith, λ i s. record { low = omega arith; stand = c.requires.bound; small = omega arith; total = sym (zero-add _) })
 
 pub loop-p-preserved-then-plan-p-eq115 : goal.loop-p-preserved-then-plan-p-eq115
 loop-p-preserved-then-plan-p-eq115 c = (
@@ -25,10 +25,10 @@ loop-p-preserved c = (
 
 pub returns : goal.returns
 returns c =
-    counted_back c.args.plan.now c.args.place c.requires.0 c.requires.1 c.loop-p.p c.loop-p.wanted c.loop-p.found
+    counted_back c.args.plan.now c.args.place c.requires.place_in_bounds c.requires.by_index c.loop-p.p c.loop-p.wanted c.loop-p.found
     (λ a b l. elim c.loop-p-test.branch [
       | then-loop-p-test+then-wanted-gt0+else-found-wanted-le-BLOCK w ↦ omega (arith, w.if-found-wanted-le-BLOCK.false)
       | then-loop-p-test+else-wanted-gt0 w ↦ omega (arith, w.if-wanted-gt0.false)
       | else-loop-p-test w ↦ omega (arith, w.loop-p-test.false)
     ])
-    (c.loop-p.invariant.2 c.requires.0 c.requires.1)
+    (c.loop-p.invariant.2 c.requires.place_in_bounds c.requires.by_index)

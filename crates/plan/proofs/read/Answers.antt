@@ -30,25 +30,25 @@ counts plan t e =
     let all : asked (stands plan ∷ []) (tallied plan) ≡ Ok (tallied plan) = asked_yes (stands plan) [] (tallied plan) (passed_first (stands plan) [] (tallied plan) t (sym e)) in
     cc
 
-pub ask-blocks-requires : goal.ask-blocks-requires
-ask-blocks-requires c = passed_first (stands c.args.plan.now) [] _ _ (sym c.in-ok-tally.ensures)
+pub ask_blocks-requires : goal.ask_blocks-requires
+ask_blocks-requires c = passed_first (stands c.args.plan.now) [] _ _ (sym c.in_ok-tally.ensures)
 
 pub returns-then-tally-symbols : goal.returns-then-tally-symbols
 returns-then-tally-symbols c =
     let plan = c.args.plan.now in
-    let t = counts plan c.in-ok-tally.tally c.in-ok-tally.ensures in
+    let t = counts plan c.in_ok-tally.tally c.in_ok-tally.ensures in
     let s = ap (λ x. x.singles) t in
     let h = ap (λ x. x.standing) t in
     let left : (eqb (singles plan) c.args.symbols && eqb (height plan (length plan)) 0) ≡ false =
     elim c.then-tally-symbols.either [ inl ne ↦ grind (arith, nat_tests) | inr ne ↦ grind (arith, nat_tests) ] in
-    unfinished plan c.args.symbols _ _ _ _ _ _ c.in-ok-ask-letters.ensures c.in-ok-tally.ensures c.in-ok-ask-blocks.ensures (shape plan) left
+    unfinished plan c.args.symbols _ _ _ _ _ _ c.in_ok-ask_letters.ensures c.in_ok-tally.ensures c.in_ok-ask_blocks.ensures (shape plan) left
 
 pub returns : goal.returns
 returns c =
     let plan = c.args.plan.now in
-    let t = counts plan c.in-ok-tally.tally c.in-ok-tally.ensures in
+    let t = counts plan c.in_ok-tally.tally c.in_ok-tally.ensures in
     let s = ap (λ x. x.singles) t in
     let h = ap (λ x. x.standing) t in
     let done : (eqb (singles plan) c.args.symbols && eqb (height plan (length plan)) 0) ≡ true = grind (arith, nat_tests) in
     ap (λ x. Ok (record { joins = x.joins; most = x.most })) t
-    ∙ ended plan c.args.symbols _ _ _ _ _ _ c.in-ok-ask-letters.ensures c.in-ok-tally.ensures c.in-ok-ask-blocks.ensures (shape plan) done
+    ∙ ended plan c.args.symbols _ _ _ _ _ _ c.in_ok-ask_letters.ensures c.in_ok-tally.ensures c.in_ok-ask_blocks.ensures (shape plan) done

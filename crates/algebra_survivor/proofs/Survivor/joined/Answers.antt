@@ -7,7 +7,7 @@ pub returns-then-high : goal.returns-then-high
 returns-then-high c =
     let a = c.args.self in
     let b = c.args.later in
-    let r = c.from-key.result in
+    let r = c.from_key.result in
     let made : Made a b r = record {
       costs = (omega arith, omega arith, omega arith);
       words = (omega arith, omega arith);
@@ -15,7 +15,7 @@ returns-then-high c =
       high_is = omega arith;
       short = omega arith;
       shifted = _;
-      shifted_is = c.wrapping-shl-word.ensures;
-      key_is = c.from-key.ensures;
+      shifted_is = c.wrapping_shl-word.ensures;
+      key_is = c.from_key.ensures;
     } in
     record { value = joined_value a b r made; normal = joined_normal a b r made }

@@ -7,8 +7,8 @@ use Rattle.code.proofs.Branches.{half_some, branch_is, no_branch_from, no_branch
 use Rattle.code.proofs.description.Code.branch.Goals as goal
 use Rattle.code.proofs.description.Code.branch.Goals.{else-from-states-via-then-from-states+then-to-states+else-to-states-2, else-from-states-via-then-from-states+else-to-states, else-from-states-via-else-from-states}
 
-pub overflow-sub-states : goal.overflow-sub-states
-overflow-sub-states c = half_some c.args.self c.states-states.result c.states-states.ensures
+pub overflow_sub-states : goal.overflow_sub-states
+overflow_sub-states c = half_some c.args.self c.states-states.result c.states-states.ensures
 
 -- what the answer says of the next state follows from its value
 follows : (code : Code) (i j : ℕ) (r : Option ℕ) → r ≡ branch code i j
