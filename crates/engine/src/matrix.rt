@@ -30,8 +30,8 @@ fn place(i: usize, j: usize, d: usize) -> usize
 // Zero at the first d places.
 fn clear<E: Algebra>(out: &mut [E], d: usize)
     requires { d ≤ length out.old }
-    ensures zero { (p : ℕ) → p < d → at ops.zero mean out.new p ≡ ops.zero }
-    ensures normal { Normal normal out.new d }
+    ensures zero { (p : ℕ) → p < d → at E.Algebra.ops.zero E.Algebra.mean out.new p ≡ E.Algebra.ops.zero }
+    ensures normal { Normal E.Algebra.normal out.new d }
 {
     for p in 0..d {
         out[p] = E::zero();
@@ -42,12 +42,12 @@ fn clear<E: Algebra>(out: &mut [E], d: usize)
 fn add_row<E: Algebra>(a: E, b: &[E], d: usize, out: &mut [E])
     requires d_in_bounds { d ≤ length out.old }
     requires b_len { length b.now ≡ d }
-    requires a_value { normal a ≡ true }
-    requires normal_2 { Normal normal b.now d }
-    requires normal_3 { Normal normal out.old d }
-    ensures added { (p : ℕ) → p < d → at ops.zero mean out.new p
-        ≡ ops.add (at ops.zero mean out.old p) (ops.mul (mean a) (at ops.zero mean b.now p)) }
-    ensures normal { Normal normal out.new d }
+    requires a_value { E.Algebra.normal a ≡ true }
+    requires normal_2 { Normal E.Algebra.normal b.now d }
+    requires normal_3 { Normal E.Algebra.normal out.old d }
+    ensures added { (p : ℕ) → p < d → at E.Algebra.ops.zero E.Algebra.mean out.new p
+        ≡ E.Algebra.ops.add (at E.Algebra.ops.zero E.Algebra.mean out.old p) (E.Algebra.ops.mul (E.Algebra.mean a) (at E.Algebra.ops.zero E.Algebra.mean b.now p)) }
+    ensures normal { Normal E.Algebra.normal out.new d }
 {
     for p in 0..d {
         out[p] = out[p].accumulate(a, b[p]);
@@ -60,12 +60,12 @@ fn add_column<E: Algebra>(m: &[E], k: usize, b: E, d: usize, out: &mut [E])
     requires d_in_bounds { d ≤ length out.old }
     requires m_len { length m.now ≡ d * d }
     requires k_lt_d { k < d }
-    requires b_value { normal b ≡ true }
-    requires normal_2 { Normal normal m.now (d * d) }
-    requires normal_3 { Normal normal out.old d }
-    ensures added { (p : ℕ) → p < d → at ops.zero mean out.new p
-        ≡ ops.add (at ops.zero mean out.old p) (ops.mul (at ops.zero mean m.now (p * d + k)) (mean b)) }
-    ensures normal { Normal normal out.new d }
+    requires b_value { E.Algebra.normal b ≡ true }
+    requires normal_2 { Normal E.Algebra.normal m.now (d * d) }
+    requires normal_3 { Normal E.Algebra.normal out.old d }
+    ensures added { (p : ℕ) → p < d → at E.Algebra.ops.zero E.Algebra.mean out.new p
+        ≡ E.Algebra.ops.add (at E.Algebra.ops.zero E.Algebra.mean out.old p) (E.Algebra.ops.mul (at E.Algebra.ops.zero E.Algebra.mean m.now (p * d + k)) (E.Algebra.mean b)) }
+    ensures normal { Normal E.Algebra.normal out.new d }
 {
     for p in 0..d {
         out[p] = out[p].accumulate(m[place(p, k, d)], b);
@@ -78,11 +78,11 @@ fn row_times<E: Algebra>(x: &[E], m: &[E], d: usize, out: &mut [E])
     requires d_in_bounds { d ≤ length out.old }
     requires x_len { length x.now ≡ d }
     requires m_len { length m.now ≡ d * d }
-    requires normal_2 { Normal normal x.now d }
-    requires normal_3 { Normal normal m.now (d * d) }
-    ensures times { (j : ℕ) → j < d → at ops.zero mean out.new j
-        ≡ sum ops d (λ l. ops.mul (at ops.zero mean x.now l) (at ops.zero mean m.now (l * d + j))) }
-    ensures normal { Normal normal out.new d }
+    requires normal_2 { Normal E.Algebra.normal x.now d }
+    requires normal_3 { Normal E.Algebra.normal m.now (d * d) }
+    ensures times { (j : ℕ) → j < d → at E.Algebra.ops.zero E.Algebra.mean out.new j
+        ≡ sum E.Algebra.ops d (λ l. E.Algebra.ops.mul (at E.Algebra.ops.zero E.Algebra.mean x.now l) (at E.Algebra.ops.zero E.Algebra.mean m.now (l * d + j))) }
+    ensures normal { Normal E.Algebra.normal out.new d }
 {
     clear(out, d);
     for k in 0..d {
@@ -101,11 +101,11 @@ fn times_column<E: Algebra>(m: &[E], n: &[E], j: usize, d: usize, out: &mut [E])
     requires m_len { length m.now ≡ d * d }
     requires n_len { length n.now ≡ d * d }
     requires j_lt_d { j < d }
-    requires normal_2 { Normal normal m.now (d * d) }
-    requires normal_3 { Normal normal n.now (d * d) }
-    ensures times { (i : ℕ) → i < d → at ops.zero mean out.new i
-        ≡ sum ops d (λ l. ops.mul (at ops.zero mean m.now (i * d + l)) (at ops.zero mean n.now (l * d + j))) }
-    ensures normal { Normal normal out.new d }
+    requires normal_2 { Normal E.Algebra.normal m.now (d * d) }
+    requires normal_3 { Normal E.Algebra.normal n.now (d * d) }
+    ensures times { (i : ℕ) → i < d → at E.Algebra.ops.zero E.Algebra.mean out.new i
+        ≡ sum E.Algebra.ops d (λ l. E.Algebra.ops.mul (at E.Algebra.ops.zero E.Algebra.mean m.now (i * d + l)) (at E.Algebra.ops.zero E.Algebra.mean n.now (l * d + j))) }
+    ensures normal { Normal E.Algebra.normal out.new d }
 {
     clear(out, d);
     for k in 0..d {
@@ -135,8 +135,8 @@ fn put_column<E: Algebra>(work: &mut [E], b: usize, j: usize, row: &[E], d: usiz
     requires j_lt_d { j < d }
     ensures before { take b work.new ≡ take b work.old }
     ensures after { drop (b + d * d) work.new ≡ drop (b + d * d) work.old }
-    ensures there { Column ops.zero mean row.now b j d work.old work.new }
-    ensures normal { Column true normal row.now b j d work.old work.new }
+    ensures there { Column E.Algebra.ops.zero E.Algebra.mean row.now b j d work.old work.new }
+    ensures normal { Column true E.Algebra.normal row.now b j d work.old work.new }
 {
     for i in 0..d {
         work[b + place(i, j, d)] = row[i];
@@ -149,8 +149,8 @@ fn copy_down<E: Algebra>(work: &mut [E], a: usize, b: usize, n: usize)
     requires n_in_bounds { b + n ≤ length work.old }
     ensures before { take a work.new ≡ take a work.old }
     ensures after { drop (a + n) work.new ≡ drop (a + n) work.old }
-    ensures there { (p : ℕ) → p < n → at ops.zero mean work.new (a + p) ≡ at ops.zero mean work.old (b + p) }
-    ensures normal { (p : ℕ) → p < n → at true normal work.new (a + p) ≡ at true normal work.old (b + p) }
+    ensures there { (p : ℕ) → p < n → at E.Algebra.ops.zero E.Algebra.mean work.new (a + p) ≡ at E.Algebra.ops.zero E.Algebra.mean work.old (b + p) }
+    ensures normal { (p : ℕ) → p < n → at true E.Algebra.normal work.new (a + p) ≡ at true E.Algebra.normal work.old (b + p) }
 {
     for p in 0..n {
         work[a + p] = work[b + p];
@@ -175,7 +175,7 @@ fn join_rows<E: Algebra>(work: &mut [E], row: &mut [E], d: usize, a: usize)
     requires d_bound { d ≤ 64 }
     requires d_in_bounds { a + d * d + d * d ≤ length work.old }
     requires d_in_bounds_2 { d ≤ length row.old }
-    requires normal_from { NormalFrom normal work.old a (d * d + d * d) }
+    requires normal_from { NormalFrom E.Algebra.normal work.old a (d * d + d * d) }
     ensures { Joined E.Algebra d a work.old work.new }
 {
     let b = a + d * d;
@@ -191,7 +191,7 @@ fn join_columns<E: Algebra>(work: &mut [E], row: &mut [E], d: usize, a: usize)
     requires d_bound { d ≤ 64 }
     requires d_in_bounds { a + d * d + d * d ≤ length work.old }
     requires d_in_bounds_2 { d ≤ length row.old }
-    requires normal_from { NormalFrom normal work.old a (d * d + d * d) }
+    requires normal_from { NormalFrom E.Algebra.normal work.old a (d * d + d * d) }
     ensures { Joined E.Algebra d a work.old work.new }
 {
     let b = a + d * d;
@@ -208,7 +208,7 @@ pub(crate) fn join<E: Algebra>(work: &mut [E], row: &mut [E], d: usize, a: usize
     requires d_bound { d ≤ 64 }
     requires d_in_bounds { a + d * d + d * d ≤ length work.old }
     requires d_in_bounds_2 { d ≤ length row.old }
-    requires normal_from { NormalFrom normal work.old a (d * d + d * d) }
+    requires normal_from { NormalFrom E.Algebra.normal work.old a (d * d + d * d) }
     ensures { Joined E.Algebra d a work.old work.new }
 {
     let b = a + d * d;
@@ -222,8 +222,8 @@ pub(crate) fn join<E: Algebra>(work: &mut [E], row: &mut [E], d: usize, a: usize
 // Puts the first d elements into normal form, so that the loops above need not test them.
 pub(crate) fn normalize<E: Algebra>(xs: &mut [E], d: usize)
     requires { d ≤ length xs.old }
-    ensures same { (p : ℕ) → p < d → at ops.zero mean xs.new p ≡ at ops.zero mean xs.old p }
-    ensures normal { Normal normal xs.new d }
+    ensures same { (p : ℕ) → p < d → at E.Algebra.ops.zero E.Algebra.mean xs.new p ≡ at E.Algebra.ops.zero E.Algebra.mean xs.old p }
+    ensures normal { Normal E.Algebra.normal xs.new d }
     ensures rest { drop d xs.new ≡ drop d xs.old }
 {
     for p in 0..d {
@@ -237,10 +237,10 @@ pub(crate) fn apply<E: Algebra>(state: &mut [E], m: &[E], d: usize, row: &mut [E
     requires m_len { length m.now ≡ d * d }
     requires d_in_bounds { d ≤ length state.old }
     requires d_in_bounds_2 { d ≤ length row.old }
-    requires normal { Normal normal m.now (d * d) }
+    requires normal { Normal E.Algebra.normal m.now (d * d) }
     ensures rest { drop d state.new ≡ drop d state.old }
-    ensures times { (j : ℕ) → j < d → at ops.zero mean state.new j
-        ≡ stepped ops d (at ops.zero mean state.old) (λ l i. at ops.zero mean m.now (l * d + i)) j }
+    ensures times { (j : ℕ) → j < d → at E.Algebra.ops.zero E.Algebra.mean state.new j
+        ≡ stepped E.Algebra.ops d (at E.Algebra.ops.zero E.Algebra.mean state.old) (λ l i. at E.Algebra.ops.zero E.Algebra.mean m.now (l * d + i)) j }
 {
     normalize(state, d);
     row_times(&state[0..d], m, d, row);

@@ -28,7 +28,7 @@ pub struct Run<'a, E> {
 
 // Is each symbol accepted?
 fn ask_symbols<R: Recursion>(r: &R, symbols: &[u32]) -> Result<(), Refusal>
-    ensures { result ≡ asked (accepted (rule Element-as-Algebra R.Recursion r.now) symbols.now ∷ []) (record {}) }
+    ensures { result ≡ asked (accepted (rule R.Element.Algebra R.Recursion r.now) symbols.now ∷ []) (record {}) }
 {
     for (place, symbol) in symbols.iter().enumerate() {
         if !r.accepts(*symbol) {
@@ -50,7 +50,7 @@ fn has_room(most: usize, d: usize, room: usize) -> bool
 // The element at a place.
 fn pick<E: Algebra>(xs: &[E], place: usize) -> E
     requires { place < length xs.now }
-    ensures { mean result ≡ at ops.zero mean xs.now place }
+    ensures { E.Algebra.mean result ≡ at E.Algebra.ops.zero E.Algebra.mean xs.now place }
 {
     xs[place]
 }

@@ -1,5 +1,5 @@
 -- The sequence from nine ones, computed by shifting a list of bits.
-use Rattle.std.proofs.Common.{◌≡◌, ℕ, zero, suc, ◌+◌, ◌-◌, ◌<◌, List, [], ◌∷◌, ◌++◌, length, drop, sym, refl, ap, ◌∙◌, inl, inr, add-one, one-add, arith, length_append, length-drop}
+use Rattle.std.proofs.Common.{◌≡◌, ℕ, zero, suc, ◌+◌, ◌-◌, ◌<◌, List, [], ◌∷◌, ◌++◌, length, drop, sym, refl, ap, ◌∙◌, inl, inr, add-one, one-add, arith, length-append, length-drop}
 use Rattle.std.proofs.lemmas.Bool.{cases_lt}
 use Rattle.algebra.specs.Sums.{at}
 use Rattle.algebra.proofs.Places.{at_append_left, at_append_right, at_drop}
@@ -21,7 +21,7 @@ after (suc k) = moved (after k)
 
 long : (k : ℕ) → length (after k) ≡ 9
 long zero = refl
-long (suc k) = length_append (drop 1 (after k)) _ ∙ omega (arith, length-drop 1 (after k), long k)
+long (suc k) = length-append (drop 1 (after k)) _ ∙ omega (arith, length-drop 1 (after k), long k)
 
 moves : (s : List Bit) → length s ≡ 9 → (j : ℕ) → j < 9 → bit_at (moved s) j ≡ stepped bit_ops 9 (bit_at s) (sequence_entry 0) j
 unfolding at

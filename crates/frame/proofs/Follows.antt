@@ -1,5 +1,5 @@
 -- A take leads a frame and its store where it leads the plain frame.
-use Rattle.std.proofs.Common.{◌≡◌, ℕ, suc, ◌+◌, ◌*◌, ◌<◌, ◌≤◌, Bool, true, ◌&&◌, leb, List, [], ◌∷◌, ◌++◌, length, get_or, Ok, Err, Result, sym, refl, ap, ◌∙◌, subst, arith, length_append}
+use Rattle.std.proofs.Common.{◌≡◌, ℕ, suc, ◌+◌, ◌*◌, ◌<◌, ◌≤◌, Bool, true, ◌&&◌, leb, List, [], ◌∷◌, ◌++◌, length, get_or, Ok, Err, Result, sym, refl, ap, ◌∙◌, subst, arith, length-append}
 use Rattle.std.proofs.lemmas.List.{nil_from_length}
 use Rattle.std.proofs.lemmas.Bool.Decides.{nat_tests}
 use Rattle.std.specs.List.{AllByRecursion as All}
@@ -80,7 +80,7 @@ module _ (c : Code) (p : Plain) (ys plan : List ℕ) (was is : Frame) (store sto
       subst (λ st. Small (st ++ (after plan (length plan)).blocks)) (nil_from_length (after plan (length plan)).stack empty) (all_small plan (all_made plan (length ys) (shape plan) (shape plan) passed) (length plan) (omega arith)) in
       let done = subst (λ z. Done Applies survivors (survivor_rule z) ys plan was.metrics is.metrics store store' work') old.of g.done in
       let held = plan_holds c p.symbols ys was.metrics store old.holds plan is.metrics store' empty all small good done.fed in
-      let long = length_append p.symbols ys in
+      let long = length-append p.symbols ys in
       record {
         of = g.same ∙ old.of;
         counted = g.counted ∙ omega (arith, old.counted, long);

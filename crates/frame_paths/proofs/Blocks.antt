@@ -1,5 +1,5 @@
 -- Each entry of a block's matrix is the survivor of the paths over its symbols.
-use Rattle.std.proofs.Common.{◌≡◌, ℕ, ◌+◌, ◌*◌, ◌%◌, ◌^◌, ◌<◌, ◌≤◌, Bool, true, false, ◌&&◌, List, [], ◌∷◌, ◌++◌, length, get_or, sym, refl, ap, ◌∙◌, subst, ap₂, arith, length_append}
+use Rattle.std.proofs.Common.{◌≡◌, ℕ, ◌+◌, ◌*◌, ◌%◌, ◌^◌, ◌<◌, ◌≤◌, Bool, true, false, ◌&&◌, List, [], ◌∷◌, ◌++◌, length, get_or, sym, refl, ap, ◌∙◌, subst, ap₂, arith, length-append}
 use mathlib.Core.List.{map-append}
 use lib.ListN.{length-map}
 use Rattle.std.specs.List.{AllByRecursion as All}
@@ -23,7 +23,7 @@ use Rattle.frame_paths.proofs.Walks.{cut, end_below, end_append, costs_append, w
 -- a block has as many symbols as places, and at least one
 pub places_size : (t : Tree) → length (places t) ≡ size t
 places_size (Single p) = refl
-places_size (Join a b) = length_append (places a) (places b) ∙ ap₂ (λ (m n : ℕ). m + n) (places_size a) (places_size b)
+places_size (Join a b) = length-append (places a) (places b) ∙ ap₂ (λ (m n : ℕ). m + n) (places_size a) (places_size b)
 
 pub size_some : (t : Tree) → 1 ≤ size t
 size_some (Single p) = omega arith
@@ -104,7 +104,7 @@ module _ (c : Code) where
   apart : (i j : ℕ) (ys zs : List ℕ) → i < states c → (a w : ℕ) → Walk i j (ys ++ zs) a w → (k : ℕ) × (k < states c) × Both (length ys) (Walk i k ys) (Walk k j zs) a w
   apart i j ys zs p a w k =
       let us = k.path in
-      let x = cut (length ys) (length zs) us (k.leads.as_long ∙ length_append ys zs) k.leads.bits in
+      let x = cut (length ys) (length zs) us (k.leads.as_long ∙ length-append ys zs) k.leads.bits in
       let m = end c i x.front in (
         m,
         end_below c i x.front p x.front_bits,

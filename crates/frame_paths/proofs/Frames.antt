@@ -1,5 +1,5 @@
 -- Letter a keeps what the totals and the rows of a frame say: they take in the symbols of the block.
-use Rattle.std.proofs.Common.{◌≡◌, ℕ, suc, ◌+◌, ◌*◌, ◌^◌, ◌<◌, ◌≤◌, true, List, ◌∷◌, ◌++◌, length, Some, None, Option, sym, refl, ap, ◌∙◌, subst, ap₂, inl, inr, mul-le-mul_left, mul-suc, arith, length_append}
+use Rattle.std.proofs.Common.{◌≡◌, ℕ, suc, ◌+◌, ◌*◌, ◌^◌, ◌<◌, ◌≤◌, true, List, ◌∷◌, ◌++◌, length, Some, None, Option, sym, refl, ap, ◌∙◌, subst, ap₂, inl, inr, mul-le-mul_left, mul-suc, arith, length-append}
 use Rattle.std.specs.List.{AllByRecursion as All}
 use Rattle.std.proofs.lemmas.Bool.{cases_lt, and_from, le-leb}
 use Rattle.algebra_survivor.specs.Survivors.{Path, none, some, path_ops}
@@ -59,7 +59,7 @@ module _ (c : Code) (ys zs : List ℕ) (totals : ℕ → Option ℕ) (rows : Lis
   through j q vs l = go (totals i) refl (old i low) (m i j) refl (block i j low q)
     where
       x : Cut (length ys) (length zs) vs
-      x = cut (length ys) (length zs) vs (l.as_long ∙ length_append ys zs) l.bits
+      x = cut (length ys) (length zs) vs (l.as_long ∙ length-append ys zs) l.bits
 
       i : ℕ
       i = end c 0 x.front
@@ -164,6 +164,6 @@ frame_step c ys zs t totals new rows words m fits good is gets was = record {
       subst (λ n. Served c (ys ++ block_symbols zs t) (record { steps = n; words = words } ∷ rows) j (new j)) (block_length zs t)
       (served_next c ys (block_symbols zs t) totals rows m was.served
       (λ i k p l. subst (Survives c i k (block_symbols zs t)) (sym (is i k p l)) (survivors_best_lem c zs t fits good i k p l)) words j q (new j) (gets j q));
-  counted = ap₂ (λ (n k : ℕ). n + k) was.counted (sym (block_length zs t)) ∙ sym (length_append ys (block_symbols zs t));
+  counted = ap₂ (λ (n k : ℕ). n + k) was.counted (sym (block_length zs t)) ∙ sym (length-append ys (block_symbols zs t));
   ranged = and_from _ _ (and_from _ _ (le-leb 1 (size t) (size_some t)) (le-leb (size t) 32 fits)) was.ranged;
 }

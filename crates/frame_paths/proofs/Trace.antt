@@ -1,5 +1,5 @@
 -- A path is found again from its end state and its dropped word.
-use Rattle.std.proofs.Common.{◌≡◌, ℕ, zero, suc, ◌+◌, ◌*◌, ◌/◌, ◌%◌, ◌^◌, ◌<◌, List, [], ◌∷◌, ◌++◌, length, sym, refl, ap, ◌∙◌, subst, ap₂, one-add, arith, length_append}
+use Rattle.std.proofs.Common.{◌≡◌, ℕ, zero, suc, ◌+◌, ◌*◌, ◌/◌, ◌%◌, ◌^◌, ◌<◌, List, [], ◌∷◌, ◌++◌, length, sym, refl, ap, ◌∙◌, subst, ap₂, one-add, arith, length-append}
 use Rattle.std.proofs.lemmas.Nat.{shr-shr, div_below, mod_below, mod-mul-add}
 use Rattle.std.proofs.ByRecursion.{All-append}
 use Rattle.code.specs.declared.description.Code.{Code}
@@ -82,7 +82,7 @@ module _ (c : Code) where
   pub traced_long : (n j w : ℕ) → length (traced c n j w) ≡ n
   traced_long zero j w = refl
   traced_long (suc t) j w =
-      length_append (traced c t (prior c j (w / 2 ^ t % 2)) w) (input c j ∷ []) ∙ ap (λ n. n + 1) (traced_long t (prior c j (w / 2 ^ t % 2)) w) ∙ more t
+      length-append (traced c t (prior c j (w / 2 ^ t % 2)) w) (input c j ∷ []) ∙ ap (λ n. n + 1) (traced_long t (prior c j (w / 2 ^ t % 2)) w) ∙ more t
     where
       more : (n : ℕ) → n + 1 ≡ suc n
       more n = omega arith
@@ -99,7 +99,7 @@ module _ (c : Code) where
   decoded_long [] j = refl
   decoded_long (r ∷ rs) j =
       let i = origin c r.steps j (r.words j) in
-      length_append (decoded c rs i) (traced c r.steps j (r.words j)) ∙ ap₂ (λ (m n : ℕ). m + n) (decoded_long rs i) (traced_long r.steps j (r.words j))
+      length-append (decoded c rs i) (traced c r.steps j (r.words j)) ∙ ap₂ (λ (m n : ℕ). m + n) (decoded_long rs i) (traced_long r.steps j (r.words j))
 
   pub decoded_bits : (rs : List Row) (j : ℕ) → j < states c → Bits (decoded c rs j)
   decoded_bits [] j p = tt

@@ -1,5 +1,5 @@
 -- Paths one after another are a path, and a path is cut in two at any place.
-use Rattle.std.proofs.Common.{◌≡◌, ℕ, zero, suc, ◌+◌, ◌*◌, ◌%◌, ◌^◌, ◌<◌, List, [], ◌∷◌, ◌++◌, length, replicate, refl, ap, ◌∙◌, mul_assoc, arith, length_append}
+use Rattle.std.proofs.Common.{◌≡◌, ℕ, zero, suc, ◌+◌, ◌*◌, ◌%◌, ◌^◌, ◌<◌, List, [], ◌∷◌, ◌++◌, length, replicate, refl, ap, ◌∙◌, mul_assoc, arith, length-append}
 use native.Mathlib.Nat.{pow-succ'}
 use Rattle.std.proofs.ByRecursion.{All-append}
 use Rattle.code.specs.declared.description.Code.{Code}
@@ -68,7 +68,7 @@ module _ (c : Code) where
   pub leads_append : (i k j : ℕ) (ys zs us vs : List ℕ) → Leads c i ys k us → Leads c k zs j vs → Leads c i (ys ++ zs) j (us ++ vs)
   leads_append i k j ys zs us vs p q = record {
     bits = All-append _ us vs p.bits q.bits;
-    as_long = omega (arith, length_append us vs, length_append ys zs, p.as_long, q.as_long);
+    as_long = omega (arith, length-append us vs, length-append ys zs, p.as_long, q.as_long);
     there = end_append i us vs ∙ ap (λ s. end c s vs) p.there ∙ q.there;
   }
 

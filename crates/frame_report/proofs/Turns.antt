@@ -1,5 +1,5 @@
 -- A turn of the loop over deliveries: one is answered and listed, and the others are left.
-use Rattle.std.proofs.Common.{◌≡◌, ℕ, ◌<◌, List, [], ◌++◌, length, Ok, Err, Result, sym, refl, ap, ◌∙◌, subst, ap₂, append_assoc, append-nil, arith, length_append}
+use Rattle.std.proofs.Common.{◌≡◌, ℕ, ◌<◌, List, [], ◌++◌, length, Ok, Err, Result, sym, refl, ap, ◌∙◌, subst, ap₂, append_assoc, append-nil, arith, length-append}
 use Rattle.refusal.specs.declared.Refusal.{Refusal}
 use Rattle.frame.specs.declared.Frame.{Frame}
 use Rattle.frame.specs.Plain.{Plain, nothing, settled}
@@ -46,7 +46,7 @@ unfolding kept
 kept_bounded p d (Ok x) e b =
     let held : settled (answered p d) (grown p d) p ≡ grown p d = ap (λ o. settled o (grown p d) p) (sym e) in
     let a = accepted_answer p d x (sym e) in
-    subst Bounded (sym held) (record { symbols = omega (arith, a.symbols, length_append p.symbols (numbers d.1)); rows = a.rows })
+    subst Bounded (sym held) (record { symbols = omega (arith, a.symbols, length-append p.symbols (numbers d.1)); rows = a.rows })
 kept_bounded p d (Err r) e b =
     let held : settled (answered p d) (grown p d) p ≡ p = ap (λ o. settled o (grown p d) p) (sym e) in
     subst Bounded (sym held) b

@@ -1,5 +1,5 @@
 -- The lists of n bits have each list of n bits once and no other, and so have the admitted ones of them.
-use Rattle.std.proofs.Common.{◌≡◌, ℕ, zero, suc, ◌+◌, ◌<◌, Bool, true, false, cond, ◌&&◌, eqb, List, [], ◌∷◌, ◌++◌, map, length, filter, sym, refl, ap, ◌∙◌, ap₂, inl, inr, zero-add, arith, lit<, length_append}
+use Rattle.std.proofs.Common.{◌≡◌, ℕ, zero, suc, ◌+◌, ◌<◌, Bool, true, false, cond, ◌&&◌, eqb, List, [], ◌∷◌, ◌++◌, map, length, filter, sym, refl, ap, ◌∙◌, ap₂, inl, inr, zero-add, arith, lit<, length-append}
 use Rattle.std.specs.List.{AllByRecursion as All}
 use Rattle.std.specs.Str.{bytes_eq}
 use Rattle.std.proofs.lemmas.List.Elements.{filter-append}
@@ -27,7 +27,7 @@ occurrences_more us x xs = by_test (bytes_eq us x) (filter (bytes_eq us) xs)
     by_test false kept = omega arith
 
 occurrences_append : (us : List ℕ) (xs zs : List (List ℕ)) → occurrences us (xs ++ zs) ≡ occurrences us xs + occurrences us zs
-occurrences_append us xs zs = ap length (filter-append (bytes_eq us) xs zs) ∙ length_append (filter (bytes_eq us) xs) (filter (bytes_eq us) zs)
+occurrences_append us xs zs = ap length (filter-append (bytes_eq us) xs zs) ∙ length-append (filter (bytes_eq us) xs) (filter (bytes_eq us) zs)
 
 -- behind the same first bit, as often as without it
 occurrences_same : (u : ℕ) (us : List ℕ) (xs : List (List ℕ)) → occurrences (u ∷ us) (map (λ zs. u ∷ zs) xs) ≡ occurrences us xs

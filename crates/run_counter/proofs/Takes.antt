@@ -1,5 +1,5 @@
 -- Whatever symbols a counter has taken, a take answers as the plain run does, and adds its symbols where it accepts.
-use Rattle.std.proofs.Common.{◌≡◌, ℕ, ◌+◌, List, [], ◌++◌, length, Ok, Err, Result, sym, ap, ◌∙◌, subst, length_append}
+use Rattle.std.proofs.Common.{◌≡◌, ℕ, ◌+◌, List, [], ◌++◌, length, Ok, Err, Result, sym, ap, ◌∙◌, subst, length-append}
 use Rattle.algebra_scalars.specs.Counts.{Residue, count_ops}
 use Rattle.algebra_scalars.specs.declared.count.Count.{Count}
 use Rattle.algebra_scalars.specs.contracts.count.CountAlgebra.TheImpl.{ghosts as counts}
@@ -26,7 +26,7 @@ counting_on c ys zs = record {
 both_taken : (c : Code) (ys zs : List ℕ) (run : Run Count) → Holds counts (counting_on c ys zs) run → Holds counts (counting c (ys ++ zs)) run
 both_taken c ys zs run h = record {
   sized = h.sized;
-  counted = h.counted ∙ sym (length_append ys zs);
+  counted = h.counted ∙ sym (length-append ys zs);
   fits = h.fits;
   means = λ j l. h.means j l ∙ sym (steps_append count_ops (states c) (trellis_rule c).entry ys zs start_of j);
 }

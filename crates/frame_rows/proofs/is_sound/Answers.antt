@@ -1,6 +1,6 @@
 -- Each turn leaves one row less, and as many steps less as it has.
 use Rattle.std.proofs.Common.{◌≡◌, ◌-◌, length, take, sym, ◌∙◌, inl, inr, arith}
-use Rattle.std.proofs.lemmas.List.{length_append, length-drop, length-take}
+use Rattle.std.proofs.lemmas.List.{length-append, length-drop, length-take}
 use Rattle.frame_rows.specs.Traces.{row_words}
 use Rattle.frame_rows.proofs.Rooms.{row_inside}
 use Rattle.frame_rows.proofs.Turns.{sound_again, sound_fails}
@@ -23,7 +23,7 @@ loop-k-preserved c =
     let traced = c.trace-row-state in
     let long : length (take (read.result.0 - 0) c.loop-k.scratch) ≡ read.result.0 = simp length-take (omega arith) in (
       traced.ensures.below,
-      simp (length_append, length-drop) (omega arith),
+      simp (length-append, length-drop) (omega arith),
       c.loop-k.invariant.2
           ∙ sound_again c.args.code c.args.store.now c.loop-k.k c.loop-k.state read.result.0 read.result.1 c.loop-k-test.true read.ensures.steps read.ensures.word
           c.loop-k.left c.if-length-lt-SHORTEST.false c.if-length-gt-LONGEST.false c.if-length-left.false _ _ long traced.ensures.before,

@@ -9,7 +9,7 @@ loop-j-init g c = (refl, (λ p h. absurd (omega arith)), (λ p h. absurd (omega 
 
 pub loop-j-preserved : goal.loop-j-preserved
 loop-j-preserved g c =
-    let a = g.Element.Algebra in
+    let a = g.R.Element.Algebra in
     let s = c.args.s in
     let j = c.loop-j.j in
     let work = c.loop-j.work in

@@ -14,16 +14,16 @@ loop-p-preserved g c =
     let p = c.loop-p.p in
     let q = c.place.result in
     let m = c.args.m.now in
-    let in-m : q < length m = omega (arith, c.place.ensures.inside, c.requires.2) in
+    let in-m : q < length m = omega (arith, c.place.ensures.inside, c.requires.m_len) in
     let in-out : p < length c.loop-p.out = omega arith in
     let low : p < c.args.d = omega arith in
     let m-is : at a.ops.zero a.mean m (p * c.args.d + c.args.k) ≡ a.mean c.index-m-place.result =
     ap (at a.ops.zero a.mean m) (sym c.place.ensures.value) ∙ at_read a.ops.zero a.mean m q _ in-m c.index-m-place.is in
-    let m-normal = sym (at_read true a.normal m q _ in-m c.index-m-place.is) ∙ c.requires.5 q c.place.ensures.inside in
-    let x-normal = read_normal a _ c.args.out.now p c.args.d c.loop-p.out _ low in-out c.index-out-p.is c.requires.6 c.loop-p.invariant in
+    let m-normal = sym (at_read true a.normal m q _ in-m c.index-m-place.is) ∙ c.requires.normal_2 q c.place.ensures.inside in
+    let x-normal = read_normal a _ c.args.out.now p c.args.d c.loop-p.out _ low in-out c.index-out-p.is c.requires.normal_3 c.loop-p.invariant in
     added_more a _ c.args.out.now p c.loop-p.out _ _ in-out c.index-out-p.is
-    (c.accumulate.ensures.value x-normal m-normal c.requires.4 ∙ ap (λ v. a.ops.add (a.mean c.index-out-p.result) (a.ops.mul v (a.mean c.args.b))) (sym m-is))
-    (c.accumulate.ensures.normal x-normal m-normal c.requires.4)
+    (c.accumulate.ensures.value x-normal m-normal c.requires.b_value ∙ ap (λ v. a.ops.add (a.mean c.index-out-p.result) (a.ops.mul v (a.mean c.args.b))) (sym m-is))
+    (c.accumulate.ensures.normal x-normal m-normal c.requires.b_value)
     c.loop-p.invariant
 
 pub returns : goal.returns

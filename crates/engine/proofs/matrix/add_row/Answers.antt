@@ -15,11 +15,11 @@ loop-p-preserved g c =
     let in-out : p < length c.loop-p.out = omega arith in
     let low : p < c.args.d = omega arith in
     let b-is = at_read a.ops.zero a.mean c.args.b.now p _ in_b c.index-b-p.is in
-    let b-normal = sym (at_read true a.normal c.args.b.now p _ in_b c.index-b-p.is) ∙ c.requires.3 p low in
-    let x-normal = read_normal a _ c.args.out.now p c.args.d c.loop-p.out _ low in-out c.index-out-p.is c.requires.4 c.loop-p.invariant in
+    let b-normal = sym (at_read true a.normal c.args.b.now p _ in_b c.index-b-p.is) ∙ c.requires.normal_2 p low in
+    let x-normal = read_normal a _ c.args.out.now p c.args.d c.loop-p.out _ low in-out c.index-out-p.is c.requires.normal_3 c.loop-p.invariant in
     added_more a _ c.args.out.now p c.loop-p.out _ _ in-out c.index-out-p.is
-    (c.accumulate.ensures.value x-normal c.requires.2 b-normal ∙ ap (λ v. a.ops.add (a.mean c.index-out-p.result) (a.ops.mul (a.mean c.args.a) v)) (sym b-is))
-    (c.accumulate.ensures.normal x-normal c.requires.2 b-normal)
+    (c.accumulate.ensures.value x-normal c.requires.a_value b-normal ∙ ap (λ v. a.ops.add (a.mean c.index-out-p.result) (a.ops.mul (a.mean c.args.a) v)) (sym b-is))
+    (c.accumulate.ensures.normal x-normal c.requires.a_value b-normal)
     c.loop-p.invariant
 
 pub returns : goal.returns

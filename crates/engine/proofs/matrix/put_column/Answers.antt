@@ -19,8 +19,8 @@ loop-i-preserved g c =
     let low : b ≤ b + s = omega arith in (
       take-set-le _ _ _ _ low ∙ c.loop-i.invariant.0,
       drop-set-lt _ _ _ _ past ∙ c.loop-i.invariant.1,
-      written_more a.ops.zero a.mean c.args.row.now b c.args.j d _ c.loop-i.i s work _ (omega arith) c.requires.3 c.place.ensures.value inside (omega arith) c.index-row-i.is c.loop-i.invariant.2,
-      written_more true a.normal c.args.row.now b c.args.j d _ c.loop-i.i s work _ (omega arith) c.requires.3 c.place.ensures.value inside (omega arith) c.index-row-i.is c.loop-i.invariant.3,
+      written_more a.ops.zero a.mean c.args.row.now b c.args.j d _ c.loop-i.i s work _ (omega arith) c.requires.j_lt_d c.place.ensures.value inside (omega arith) c.index-row-i.is c.loop-i.invariant.2,
+      written_more true a.normal c.args.row.now b c.args.j d _ c.loop-i.i s work _ (omega arith) c.requires.j_lt_d c.place.ensures.value inside (omega arith) c.index-row-i.is c.loop-i.invariant.3,
     )
 
 pub returns : goal.returns

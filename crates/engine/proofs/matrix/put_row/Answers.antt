@@ -9,8 +9,8 @@ pub returns : goal.returns
 returns g c =
     let s = c.args.s in
     let d = c.args.d in
-    let part = c.copy-from-slice.new.self in
-    let copied = c.copy-from-slice.ensures.after in
+    let part = c.copy_from_slice.new.self in
+    let copied = c.copy_from_slice.ensures.after in
     let all : d - 0 ≡ d = omega arith in
     let cut : s + d - s ≡ d = omega arith in
     let long : length part ≡ d - 0 = ap length copied ∙ length-take-le _ _ (omega arith) in

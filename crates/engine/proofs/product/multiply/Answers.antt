@@ -22,10 +22,10 @@ product_of a d was fine now same rest done =
       rest = subst (λ n. drop n now ≡ drop n fine) two done.after ∙ rest;
     }
 
-pub returns-then-not-has-two : goal.returns-then-not-has-two
-returns-then-not-has-two g c =
+pub returns-then-not-has_two : goal.returns-then-not-has_two
+returns-then-not-has_two g c =
     record {
-      answer = sym (asked_no (multiplies c.args.d (length c.args.work.now) (length c.args.row.now)) [] _ 0 (omega arith) (sym c.if-not-has-two.ensures) (λ k h. absurd (omega arith)));
+      answer = sym (asked_no (multiplies c.args.d (length c.args.work.now) (length c.args.row.now)) [] _ 0 (omega arith) (sym c.if-not-has_two.ensures) (λ k h. absurd (omega arith)));
       product = (refl, refl);
     }
 
@@ -35,13 +35,18 @@ two d k n e = grind (arith, nat_tests)
 
 pub join-requires : goal.join-requires
 join-requires g c =
-    let has = two _ _ _ c.if-not-has-two.ensures in
+    let has = two _ _ _ c.if-not-has_two.ensures in
     let long = c.normalize.auto.xs in
-    (has.0, omega arith, has.1, λ p h. ap (at true g.E.Algebra.normal c.normalize.new.xs) (zero-add p) ∙ c.normalize.ensures.normal p (omega arith))
+    record {
+      d_bound = has.0;
+      d_in_bounds = omega arith;
+      d_in_bounds_2 = has.1;
+      normal_from = λ p h. ap (at true g.E.Algebra.normal c.normalize.new.xs) (zero-add p) ∙ c.normalize.ensures.normal p (omega arith);
+    }
 
 pub returns : goal.returns
 returns g c =
     record {
-      answer = sym (asked_yes (multiplies c.args.d (length c.args.work.now) (length c.args.row.now)) [] _ (λ p h. sym c.if-not-has-two.ensures));
+      answer = sym (asked_yes (multiplies c.args.d (length c.args.work.now) (length c.args.row.now)) [] _ (λ p h. sym c.if-not-has_two.ensures));
       product = product_of g.E.Algebra c.args.d c.args.work.now c.normalize.new.xs c.join.new.work c.normalize.ensures.same c.normalize.ensures.rest c.join.ensures;
     }

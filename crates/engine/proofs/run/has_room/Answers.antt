@@ -15,8 +15,8 @@ room_is n k room h =
       | inr some ↦ let large : n ≤ room / k = fits.1 some in grind (arith, nat_tests)
     ]
 
-pub nonzero-div-result : goal.nonzero-div-result
-nonzero-div-result c = square _ c.requires.0
+pub nonzero_div-result : goal.nonzero_div-result
+nonzero_div-result c = square _ c.requires.le_d
 
 pub returns : goal.returns
-returns c = room_is c.args.most (c.args.d * c.args.d) c.args.room (square _ c.requires.0)
+returns c = room_is c.args.most (c.args.d * c.args.d) c.args.room (square _ c.requires.le_d)

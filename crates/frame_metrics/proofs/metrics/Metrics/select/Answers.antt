@@ -1,7 +1,7 @@
 -- The totals and the row are those of the best offers, and a call whose sizes do not fit does nothing.
 use Rattle.std.proofs.Common.{◌≡◌, ℕ, ◌+◌, ◌-◌, ◌*◌, ◌<◌, ◌≤◌, length, get_or, take, sym, refl, ap, ◌∙◌, subst, arith}
 use borrow.Rule.Slice.PartMut.{put_mid}
-use Rattle.std.proofs.lemmas.List.{get_or-take, length_append, length-drop, length-take}
+use Rattle.std.proofs.lemmas.List.{get_or-take, length-append, length-drop, length-take}
 use Rattle.std.proofs.lemmas.Slice.{drop-put_mid, take-put_mid_below}
 use Rattle.std.proofs.lemmas.Bool.{both_ways}
 use Rattle.frame_paths.specs.Choices.{Gets}
@@ -51,7 +51,7 @@ returns c =
     let long : length (take (d - 0) best) ≡ d = simp length-take (omega (arith, c.best-offers-best.ensures.long)) in
     let same : (j : ℕ) → j < d → get_or (take (d - 0) best) j 0 ≡ get_or best j 0 = λ j h. get_or-take (d - 0) best j 0 (omega arith) in
     let row-long : length row ≡ 1 + d = c.write-row.auto.row ∙ simp (length-take, length-drop) (omega arith) in
-    let store_long : length (put_mid start k store row) ≡ length store = simp (length_append, length-take, length-drop) (omega arith) in
+    let store_long : length (put_mid start k store row) ≡ length store = simp (length-append, length-take, length-drop) (omega arith) in
     let first : start + 0 ≡ start = omega arith in
     let low : (i : ℕ) → total_of was.totals i ≤ most_cost * most_rows = λ i. omega (arith, was.low i, was.few) in
     record {

@@ -8,14 +8,14 @@ use Rattle.code.proofs.Next.{branch_some}
 use Rattle.recursion_trellis.specs.SurvivorsLemmas.{branch_in_range, entry_branch}
 use Rattle.recursion_trellis.proofs.survivor.SurvivorTrellisRecursion.entry.Goals as goal
 
-pub returns-in-Some-register : goal.returns-in-Some-register
-returns-in-Some-register c =
+pub returns-in_Some-register : goal.returns-in_Some-register
+returns-in_Some-register c =
     let code = c.args.self.now.code in
     let y = c.args.symbol in
     let i = c.args.i in
     let j = c.args.j in
     let taken : accepted y ≡ true = sym {b = accepted y} c.if-accepts.ensures in
-    let found = branch_some code i j c.in-Some-register.register c.in-Some-register.ensures.value in
+    let found = branch_some code i j c.in_Some-register.register c.in_Some-register.ensures.value in
     let there = and_from (goes code i j) (accepted y) found.0 taken in
     let paid = c.cost.ensures ∙ ap (branch_cost code y) found.1 in
     record {
