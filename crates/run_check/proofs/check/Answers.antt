@@ -8,16 +8,16 @@ use Rattle.run_check.proofs.Questions.{passed_bits, passed_value}
 use Rattle.run_check.proofs.Weights.{check_value_is}
 use Rattle.run_check.proofs.check.Goals as goal
 
-pub returns-in-err-register : goal.returns-in-err-register
-returns-in-err-register c =
+pub returns-in_err-register : goal.returns-in_err-register
+returns-in_err-register c =
     let bits = c.args.bits.now in
-    let p = err_from_is_err_and c.from-residual.result c.from-residual.ensures.1 in
-    rw (p.1, p.2) (sym (asked_first [] (register_value bits) (register_value bits) (check_value bits) (bit_questions bits) _ (sym c.in-err-register.ensures)))
+    let p = err_from_is_err_and c.from_residual.result c.from_residual.ensures.1 in
+    rw (p.1, p.2) (sym (asked_first [] (register_value bits) (register_value bits) (check_value bits) (bit_questions bits) _ (sym c.in_err-register.ensures)))
 
 pub returns : goal.returns
 returns c =
     let bits = c.args.bits.now in
-    let passed = sym c.in-ok-register.ensures in
+    let passed = sym c.in_ok-register.ensures in
     ap (λ (r : ℕ). Ok (bit_xor r 0xFFFFFFFF)) (passed_value bits (register_value bits) _ passed)
     ∙ ap Ok (sym (check_value_is bits (passed_bits bits _ _ passed)))
     ∙ sym (asked_rest [] (register_value bits) _ (check_value bits) (bit_questions bits) passed)

@@ -7,15 +7,15 @@ use Rattle.run_check.proofs.Questions.{passed_bits}
 use Rattle.run_check.proofs.Weights.{register_value_is}
 use Rattle.run_check.proofs.register.Goals as goal
 
-pub returns-in-err-ask : goal.returns-in-err-ask
-returns-in-err-ask c =
+pub returns-in_err-ask : goal.returns-in_err-ask
+returns-in_err-ask c =
     let bits = c.args.bits.now in
-    let p = err_from_is_err_and c.from-residual.result c.from-residual.ensures.1 in
-    rw (p.1, p.2) (sym (asked_first [] tt tt (register_value bits) (bit_questions bits) _ (sym c.in-err-ask.ensures)))
+    let p = err_from_is_err_and c.from_residual.result c.from_residual.ensures.1 in
+    rw (p.1, p.2) (sym (asked_first [] tt tt (register_value bits) (bit_questions bits) _ (sym c.in_err-ask.ensures)))
 
 pub returns : goal.returns
 returns c =
     let bits = c.args.bits.now in
-    let passed = sym c.in-ok-ask.ensures in
-    ap Ok (c.shift-all.ensures ∙ sym (register_value_is bits (passed_bits bits tt _ passed)))
+    let passed = sym c.in_ok-ask.ensures in
+    ap Ok (c.shift_all.ensures ∙ sym (register_value_is bits (passed_bits bits tt _ passed)))
     ∙ sym (asked_rest [] tt _ (register_value bits) (bit_questions bits) passed)

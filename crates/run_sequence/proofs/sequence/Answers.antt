@@ -13,7 +13,7 @@ loop-bit-init c = (
   λ k h. absurd (omega arith),
   λ j h. stages_none c.args.state.now j,
   refl,
-  passed_nine (length c.args.bits.now) (length c.args.state.now) tt _ (sym c.in-ok-ask.ensures),
+  passed_nine (length c.args.bits.now) (length c.args.state.now) tt _ (sym c.in_ok-ask.ensures),
 )
 
 pub loop-bit-preserved : goal.loop-bit-preserved
@@ -35,7 +35,7 @@ pub returns : goal.returns
 returns c =
     let whole : c.loop-bit.bit-index ≡ length c.args.bits.now = omega arith in
     record {
-      answer = c.in-ok-ask.ensures;
+      answer = c.in_ok-ask.ensures;
       ran = record {
         newest = λ k h. c.loop-bit.invariant.0 k (omega arith);
         after = λ j h. c.loop-bit.invariant.1 j h ∙ ap (λ (n : ℕ). stages c.args.state.now n j) whole;
