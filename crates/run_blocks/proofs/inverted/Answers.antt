@@ -11,8 +11,8 @@ loop-place-init c = sym (weigh_none _)
 pub loop-place-preserved : goal.loop-place-preserved
 loop-place-preserved c = inverted_more c.args.places.now c.loop-place.place _ _ c.loop-place.invariant c.weight-value.ensures
 
-pub overflow-add-value : goal.overflow-add-value
-overflow-add-value c =
+pub overflow_add-value : goal.overflow_add-value
+overflow_add-value c =
     let places = c.args.places.now in
     let n = c.loop-place.place in
     let next = inverted_more places n _ _ c.loop-place.invariant c.weight-value.ensures in
