@@ -9,7 +9,7 @@ use Rattle.engine.specs.Runs.{Follows, Made, Taken, fresh}
 use Rattle.engine.specs.declared.run.Run.{Run}
 use Rattle.plan.specs.Asks.{joins}
 use Rattle.recursion.specs.Steps.{rule}
-use Rattle.recursion_trellis.specs.contracts.survivor.SurvivorTrellisRecursion.TheImpl.{ghosts as trellis-of}
+use Rattle.recursion_trellis.specs.contracts.survivor.SurvivorTrellisRecursion.TheImpl.{ghosts as trellis_of}
 use Rattle.refusal.specs.Questions.{once}
 use Rattle.refusal.proofs.Questions.{asked_yes, asked_no}
 use Rattle.refusal.specs.declared.Refusal.{Refusal}
@@ -45,19 +45,19 @@ module _ (k : Code) (named : k ≡ k7) (state : List Survivor) (ys plan : List �
 
   -- a state of 64 elements is asked what the fresh run is
   pub answered : (n m : ℕ) (o : Result (ℕ × ℕ) Refusal) → 64 ≤ length state
-      → o ≡ took (fresh survivors 64 state) (rule survivors trellis-of (record { code = k })) ys plan n m → o ≡ taking state ys plan n m
+      → o ≡ took (fresh survivors 64 state) (rule survivors trellis_of (record { code = k })) ys plan n m → o ≡ taking state ys plan n m
   unfolding taking
   answered n m o long e =
       let yes : leb 64 (length state) ≡ true = grind (arith, nat_tests) in
-      e ∙ ap (λ (c : Code). took (fresh survivors 64 state) (rule survivors trellis-of (record { code = c })) ys plan n m) named
+      e ∙ ap (λ (c : Code). took (fresh survivors 64 state) (rule survivors trellis_of (record { code = c })) ys plan n m) named
       ∙ sym (asked_yes (once (leb 64 (length state)) Memory) (takes (fresh survivors 64 state) trellis ys plan n m) (length ys, joins plan) (λ p h. yes))
 
   -- what the run did to its state, it did to the buffer
   pub did : (o : Result (ℕ × ℕ) Refusal) (was is : Run Survivor) (work row state' work' row' : List Survivor)
       → was.size ≡ 64 → was.state.now ≡ state → state' ≡ is.state.now
-      → Taken survivors (rule survivors trellis-of (record { code = k })) ys plan was work row o is work' row' → Took ys plan state work row o state' work' row'
+      → Taken survivors (rule survivors trellis_of (record { code = k })) ys plan was work row o is work' row' → Took ys plan state work row o state' work' row'
   did o was is work row state' work' row' sized begins ends t =
-      let P : Code → Type 0 = λ c. Taken survivors (rule survivors trellis-of (record { code = c })) ys plan was work row o is work' row' in
+      let P : Code → Type 0 = λ c. Taken survivors (rule survivors trellis_of (record { code = c })) ys plan was work row o is work' row' in
       by_answer o (subst P named t)
     where
       by_answer : (o : Result (ℕ × ℕ) Refusal) → Taken survivors trellis ys plan was work row o is work' row' → Took ys plan state work row o state' work' row'

@@ -12,7 +12,7 @@ use Rattle.algebra.specs.Sums.{at}
 use Rattle.algebra.specs.declared.Algebra.{Ghosts as Algebra}
 use Rattle.algebra_survivor.specs.Survivors.{Path, none, path_of}
 use Rattle.algebra_survivor.specs.declared.Survivor.{Survivor}
-use Rattle.algebra_survivor.specs.contracts.SurvivorAlgebra.TheImpl.{ghosts as survivors-of}
+use Rattle.algebra_survivor.specs.contracts.SurvivorAlgebra.TheImpl.{ghosts as survivors_of}
 use Rattle.code.specs.Codes.{k7}
 use Rattle.engine.specs.Blocks.{Stands, chosen}
 use Rattle.engine.specs.Matrices.{multiplies}
@@ -21,7 +21,7 @@ use Rattle.engine.specs.Runs.{fresh}
 use Rattle.plan.specs.Asks.{joins}
 use Rattle.plan.specs.Plans.{after}
 use Rattle.recursion.specs.Steps.{Rule, rule, steps}
-use Rattle.recursion_trellis.specs.contracts.survivor.SurvivorTrellisRecursion.TheImpl.{ghosts as trellis-of}
+use Rattle.recursion_trellis.specs.contracts.survivor.SurvivorTrellisRecursion.TheImpl.{ghosts as trellis_of}
 use Rattle.refusal.specs.Numbers.{number}
 use Rattle.refusal.specs.Questions.{asked, once}
 use Rattle.refusal.specs.declared.Refusal.{Refusal}
@@ -32,10 +32,10 @@ status_of (Ok a) = 0
 status_of (Err e) = number e
 
 abbrev pub survivors : Algebra Survivor
-survivors = survivors-of
+survivors = survivors_of
 
 abbrev pub trellis : Rule Path
-trellis = rule survivors trellis-of (record { code = k7 })
+trellis = rule survivors trellis_of (record { code = k7 })
 
 abbrev pub multiplying : ℕ → ℕ → ℕ → Result Unit Refusal
 multiplying d n k = asked (multiplies d n k ∷ []) (record {})

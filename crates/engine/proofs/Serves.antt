@@ -5,7 +5,7 @@ use Rattle.algebra.specs.Laws.{Ops}
 use Rattle.algebra.specs.Sums.{at}
 use Rattle.algebra.specs.declared.Algebra.{Ghosts as Algebra}
 use Rattle.plan.specs.Asks.{asks, joins, most, shape}
-use Rattle.plan.specs.Plans.{after as letters-after}
+use Rattle.plan.specs.Plans.{after as letters_after}
 use Rattle.plan.specs.declared.Shape.{Shape}
 use Rattle.recursion.specs.Steps.{Rule, steps}
 use Rattle.recursion.proofs.Steps.{steps_cong}
@@ -50,14 +50,14 @@ module _ {E : Type 0} (a : Algebra E) where
   pub stepped_take : (r : Rule a.Value) (ys plan : List ℕ) (d : ℕ) (was is : Run E) (work : List E) → d ≡ was.size → is.size ≡ was.size
       → length is.state.now ≡ length was.state.now → is.taken ≡ was.taken + length ys → drop d is.state.now ≡ drop d was.state.now
       → ((j : ℕ) → j < d → at a.ops.zero a.mean is.state.now j ≡ steps a.ops d r.entry ys (at a.ops.zero a.mean was.state.now) j)
-      → Stands a d (chosen r.entry ys) work (letters-after plan (length plan)).last → Stepped a r ys plan was is work
+      → Stands a d (chosen r.entry ys) work (letters_after plan (length plan)).last → Stepped a r ys plan was is work
   stepped_take r ys plan d was is work e same long counted rest means block = record {
     same = same;
     long = long;
     counted = counted;
     rest = subst (λ n. drop n is.state.now ≡ drop n was.state.now) e rest;
     means = λ j h. means j (omega arith) ∙ ap (λ n. steps a.ops n r.entry ys (at a.ops.zero a.mean was.state.now) j) e;
-    block = subst (λ n. Stands a n (chosen r.entry ys) work (letters-after plan (length plan)).last) e block;
+    block = subst (λ n. Stands a n (chosen r.entry ys) work (letters_after plan (length plan)).last) e block;
   }
 
   holds_as : (p q : Plain a.Value) (run : Run E) → q ≡ p → Holds a p run → Holds a q run

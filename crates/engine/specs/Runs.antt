@@ -11,7 +11,7 @@ use Rattle.std.specs.Prelude.{◌≡◌, ℕ, ◌+◌, ◌*◌, ◌<◌, ◌≤�
 use Rattle.algebra.specs.Sums.{at}
 use Rattle.algebra.specs.declared.Algebra.{Ghosts as Algebra}
 use Rattle.plan.specs.Asks.{asks, joins, most}
-use Rattle.plan.specs.Plans.{after as letters-after}
+use Rattle.plan.specs.Plans.{after as letters_after}
 use Rattle.recursion.specs.Steps.{Rule, steps}
 use Rattle.refusal.specs.declared.Refusal.{Refusal}
 use Rattle.refusal.specs.declared.Refusal.TheVariants.{Memory, Place}
@@ -47,7 +47,7 @@ pub record Stepped {E : Type 0} (a : Algebra E) (r : Rule a.Value) (ys plan : Li
   pub counted : is.taken ≡ was.taken + length ys
   pub rest : drop was.size is.state.now ≡ drop was.size was.state.now
   pub means : (j : ℕ) → j < was.size → at a.ops.zero a.mean is.state.now j ≡ steps a.ops was.size r.entry ys (at a.ops.zero a.mean was.state.now) j
-  pub block : Stands a was.size (chosen r.entry ys) work (letters-after plan (length plan)).last
+  pub block : Stands a was.size (chosen r.entry ys) work (letters_after plan (length plan)).last
 
 abbrev pub Taken : {E : Type 0} (a : Algebra E) → Rule a.Value → List ℕ → List ℕ → Run E → List E → List E → Result (ℕ × ℕ) Refusal → Run E → List E → List E → Type 0
 Taken a r ys plan was work row (Ok x) is work' row' = Stepped a r ys plan was is work'

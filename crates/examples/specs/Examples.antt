@@ -7,7 +7,7 @@ use Rattle.std.specs.Prelude.{◌≡◌, ℕ, true, List, [], ◌∷◌, map, re
 use Rattle.refusal.specs.declared.Refusal.{Refusal}
 use Rattle.refusal.specs.Numbers.{number, place}
 use Rattle.refusal.specs.Questions.{asked}
-use Rattle.algebra_scalars.specs.Bits.{number as bit-number}
+use Rattle.algebra_scalars.specs.Bits.{number as bit_number}
 use Rattle.algebra_scalars.specs.declared.bit.Bit.{Bit}
 use Rattle.algebra_scalars.specs.Counts.{count_ops, residue_of}
 use Rattle.algebra_survivor.specs.Survivors.{path_ops, path, none}
@@ -26,7 +26,7 @@ abbrev pub ones : List Bit
 ones = replicate 9 (record { 0 = true })
 
 abbrev pub newest : ℕ → ℕ
-newest k = bit-number (stages ones k 8)
+newest k = bit_number (stages ones k 8)
 
 pub record Examples : Type 0 where
   -- (1, 14, 1) ⊗ (2, 0, 2) = (3, 14, 5)

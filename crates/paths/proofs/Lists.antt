@@ -1,6 +1,6 @@
 -- The lists of n bits have each list of n bits once and no other, and so have the admitted ones of them.
 use Rattle.std.proofs.Common.{◌≡◌, ℕ, zero, suc, ◌+◌, ◌<◌, Bool, true, false, cond, ◌&&◌, eqb, List, [], ◌∷◌, ◌++◌, map, length, filter, sym, refl, ap, ◌∙◌, ap₂, inl, inr, zero-add, arith, lit<, length-append}
-use Rattle.std.specs.List.{AllByRecursion as All}
+use Rattle.std.specs.List.{AllByRecursion}
 use Rattle.std.specs.Str.{bytes_eq}
 use Rattle.std.proofs.lemmas.List.Elements.{filter-append}
 use Rattle.std.proofs.ByRecursion.{All-append, All-map, All-weaker, all_kept_by, kept_by_passes}
@@ -11,12 +11,12 @@ use Rattle.paths.specs.Paths.{Bits, end, admits, bit_lists}
 use Rattle.paths.specs.Theorems.{occurrences, Listed}
 
 -- each is a list of n bits
-bits_alone : (n : ℕ) → All (λ us. Bits us × (length us ≡ n)) (bit_lists n)
+bits_alone : (n : ℕ) → AllByRecursion (λ us. Bits us × (length us ≡ n)) (bit_lists n)
 unfolding bit_lists
 bits_alone zero = ((tt, refl), tt)
 bits_alone (suc n) = All-append _ _ _ (led 0 (lit< tt) (bits_alone n)) (led 1 (lit< tt) (bits_alone n))
   where
-    led : (u : ℕ) → u < 2 → All (λ us. Bits us × (length us ≡ n)) (bit_lists n) → All (λ us. Bits us × (length us ≡ suc n)) (map (λ us. u ∷ us) (bit_lists n))
+    led : (u : ℕ) → u < 2 → AllByRecursion (λ us. Bits us × (length us ≡ n)) (bit_lists n) → AllByRecursion (λ us. Bits us × (length us ≡ suc n)) (map (λ us. u ∷ us) (bit_lists n))
     led u b below = All-map _ (λ us. u ∷ us) (bit_lists n) (All-weaker _ _ (λ us h. ((b, h.0), ap suc h.1)) (bit_lists n) below)
 
 occurrences_more : (us x : List ℕ) (xs : List (List ℕ)) → occurrences us (x ∷ xs) ≡ cond (bytes_eq us x) 1 0 + occurrences us xs
@@ -66,7 +66,7 @@ occurrences_kept p us h (x ∷ xs) = by_test (p x) refl (occurrences_kept p us h
     by_test true e rest = occurrences_more us x (filter p xs) ∙ ap (λ (n : ℕ). cond (bytes_eq us x) 1 0 + n) rest ∙ sym (occurrences_more us x xs)
     by_test false e rest = rest ∙ sym (occurrences_more us x xs ∙ ap (λ t. cond t 1 0 + occurrences us xs) (differs e) ∙ zero-add (occurrences us xs))
 
-all_both : {X : Type 0} (P Q : X → Type 0) (xs : List X) → All P xs → All Q xs → All (λ x. P x × Q x) xs
+all_both : {X : Type 0} (P Q : X → Type 0) (xs : List X) → AllByRecursion P xs → AllByRecursion Q xs → AllByRecursion (λ x. P x × Q x) xs
 all_both P Q [] a b = tt
 all_both P Q (x ∷ xs) a b = ((a.0, b.0), all_both P Q xs a.1 b.1)
 

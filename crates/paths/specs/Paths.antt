@@ -6,13 +6,13 @@
 --   bit_lists n          the lists of n bits
 --   paths_to c ys j      those of the lists of bits, one for each symbol of ys, that are admitted and end in j
 use Rattle.std.specs.Prelude.{◌≡◌, ℕ, zero, suc, ◌<◌, Bool, true, ◌&&◌, List, [], ◌∷◌, ◌++◌, map, length, filter, ◌==◌}
-use Rattle.std.specs.List.{AllByRecursion as All}
+use Rattle.std.specs.List.{AllByRecursion}
 use Rattle.code.specs.declared.description.Code.{Code}
 use Rattle.code.specs.Codes.{register_of, next}
 use Rattle.code.specs.Symbols.{admitted}
 
 abbrev pub Bits : List ℕ → Type 0
-Bits us = All (λ u. u < 2) us
+Bits us = AllByRecursion (λ u. u < 2) us
 
 abbrev pub end : Code → ℕ → List ℕ → ℕ
 end c s [] = s

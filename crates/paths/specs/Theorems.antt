@@ -6,7 +6,7 @@
 --   Listed c             paths_to c ys j has each admitted path over ys to j once, and no other list
 --   PathsCounted        both, for every code
 use Rattle.std.specs.Prelude.{◌≡◌, ℕ, ◌<◌, List, length, filter}
-use Rattle.std.specs.List.{AllByRecursion as All}
+use Rattle.std.specs.List.{AllByRecursion}
 use Rattle.std.specs.Str.{bytes_eq}
 use Rattle.algebra_scalars.specs.Counts.{Residue, residue_of, count_ops}
 use Rattle.recursion.specs.Steps.{steps}
@@ -27,7 +27,7 @@ abbrev pub occurrences : List ℕ → List (List ℕ) → ℕ
 occurrences us xs = length (filter (bytes_eq us) xs)
 
 abbrev pub Listed : Code → Type 0
-Listed c = (ys : List ℕ) (j : ℕ) → All (Admitted c ys j) (paths_to c ys j) × ((us : List ℕ) → Admitted c ys j us → occurrences us (paths_to c ys j) ≡ 1)
+Listed c = (ys : List ℕ) (j : ℕ) → AllByRecursion (Admitted c ys j) (paths_to c ys j) × ((us : List ℕ) → Admitted c ys j us → occurrences us (paths_to c ys j) ≡ 1)
 
 abbrev pub PathsCounted : Type 0
 PathsCounted = (c : Code) → Counted c × Listed c
