@@ -6,7 +6,7 @@ cd "$(dirname "$0")/.."
 out=target/bench
 mkdir -p "$out"
 for crate in bench_kernels bench_frames; do
-    rt staticlib "$crate" >"$out/$crate.log" 2>&1 || { tail -n 20 "$out/$crate.log" >&2; exit 1; }
+    (cd "crates/$crate" && rt lib) >"$out/$crate.log" 2>&1 || { tail -n 20 "$out/$crate.log" >&2; exit 1; }
 done
 
 cc=${CC:-gcc}
@@ -20,13 +20,13 @@ for part in baseline peers measure frames bench; do
     "$cc" -std=c11 -D_POSIX_C_SOURCE=199309L $peer -O3 -Wall -Wextra -c "bench/$part.c" -o "$out/$part.o"
 done
 "$cc" "$out/baseline.o" "$out/peers.o" "$out/measure.o" "$out/frames.o" "$out/bench.o" \
-    target/staticlib/libbench_kernels.a target/staticlib/libbench_frames.a $peer_library -o "$out/bench"
+    crates/bench_kernels/out/libbench_kernels.a crates/bench_frames/out/libbench_frames.a $peer_library -o "$out/bench"
 "$out/bench"
 
-program=target/bin/program_frames
+program=crates/program_frames/out/program_frames
 if [ -x "$program" ]; then
     "$cc" -std=c11 -D_POSIX_C_SOURCE=200809L -O3 -Wall -Wextra bench/program.c -o "$out/program"
     "$out/program" "$program" "$out/program.in"
 else
-    echo "frame program: skipped, since $program is not there (rt check program_frames makes it)"
+    echo "frame program: skipped, since $program is not there (rt run in its folder makes it)"
 fi

@@ -1,7 +1,7 @@
 #!/bin/sh
 # Runs the frame decoder on hard inputs, and compares what it prints with what the rules say it prints.
 # Usage, from the repository's folder: tests/frames/run.sh [PROGRAM]
-program=${1:-target/bin/program_frames}
+program=${1:-crates/program_frames/out/program_frames}
 here=$(dirname "$0")
 work=$(mktemp -d) || exit 2
 trap 'rm -rf "$work"' EXIT
