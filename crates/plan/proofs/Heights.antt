@@ -6,13 +6,13 @@ use Rattle.plan.specs.Plans.{Tree, Progress, joined, applied, letter, letters, n
 use Rattle.plan.specs.Plans.{Single}
 use Rattle.plan.specs.Asks.{tally, peak, height}
 
-pub letter_s : (w : Progress) (c : ℕ) → c ≡ 115 → letter w c ≡ record { stack = Single w.next ∷ w.stack; next = w.next + 1; done = w.done; last = w.last }
+pub letter_s : (w : Progress) (c : ℕ) → c ≡ 115 → letter w c ≡ record { stack = Single w.next ∷ w.stack; next = w.next + 1; done = w.done; last = w.last; blocks = w.blocks }
 letter_s w c e = rw e
 
-pub letter_j : (w : Progress) (c : ℕ) → c ≡ 106 → letter w c ≡ record { stack = joined w.stack; next = w.next; done = w.done; last = w.last }
+pub letter_j : (w : Progress) (c : ℕ) → c ≡ 106 → letter w c ≡ record { stack = joined w.stack; next = w.next; done = w.done; last = w.last; blocks = w.blocks }
 letter_j w c e = rw e
 
-pub letter_a : (w : Progress) (c : ℕ) → (c ≡ 115 → ⊥) → (c ≡ 106 → ⊥) → letter w c ≡ record { stack = []; next = w.next; done = applied w.done w.stack; last = w.stack }
+pub letter_a : (w : Progress) (c : ℕ) → (c ≡ 115 → ⊥) → (c ≡ 106 → ⊥) → letter w c ≡ record { stack = []; next = w.next; done = applied w.done w.stack; last = w.stack; blocks = w.stack ++ w.blocks }
 letter_a w c s j = grind (arith, nat_tests)
 
 pub letters_push : (w : Progress) (cs : List ℕ) (c : ℕ) → letters w (cs ++ (c ∷ [])) ≡ letter (letters w cs) c

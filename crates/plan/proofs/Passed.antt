@@ -4,7 +4,7 @@ use Rattle.std.proofs.lemmas.Bool.Decides.{nat_tests}
 use Rattle.refusal.specs.Questions.{asked}
 use Rattle.refusal.proofs.Questions.{passed_first, passed_rest}
 use Rattle.plan.specs.declared.Shape.{Shape}
-use Rattle.plan.specs.Asks.{knows, stands, fits, ends, asks, finds, singles, height}
+use Rattle.plan.specs.Asks.{knows, stands, fits, ends, asks, known, finds, makes, singles, height}
 
 module _ (plan : List ℕ) (n : ℕ) (a s : Shape) (passed : asked (asks plan n) a ≡ Ok s) where
   past_letters : asked (stands plan ∷ (fits plan ∷ (ends plan n ∷ []))) a ≡ Ok s
@@ -15,6 +15,12 @@ module _ (plan : List ℕ) (n : ℕ) (a s : Shape) (passed : asked (asks plan n)
 
   past_blocks : asked (ends plan n ∷ []) a ≡ Ok s
   past_blocks = passed_rest (fits plan) (ends plan n ∷ []) a s past_standing
+
+  pub all_known : (p : ℕ) → p < length plan → known plan p ≡ true
+  all_known = passed_first (knows plan) (stands plan ∷ (fits plan ∷ (ends plan n ∷ []))) a s passed
+
+  pub all_made : (p : ℕ) → p < length plan → makes plan p ≡ true
+  all_made = passed_first (fits plan) (ends plan n ∷ []) a s past_standing
 
   pub all_found : (p : ℕ) → p < length plan → finds plan p ≡ true
   all_found = passed_first (stands plan) (fits plan ∷ (ends plan n ∷ [])) a s past_letters

@@ -22,7 +22,7 @@ unfolding upto
 upto_none = refl
 
 -- the places of a stack, the bottom first
-abbrev flat : List Tree → List ℕ
+abbrev pub flat : List Tree → List ℕ
 flat [] = []
 flat (t ∷ rest) = flat rest ++ places t
 

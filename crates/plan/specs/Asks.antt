@@ -9,6 +9,7 @@
 --   finds plan p      whether the letter at place p does
 --   makes plan p      whether it makes a block of at most 32 symbols, where it is j
 --   singles, joins    how many letters s and j there are
+--   blocks plan       how many letters a there are: each applies a block
 --   most plan         the most matrices that ever stand
 --   asks plan n       the plan's questions, in their order, for n symbols
 --   shape plan        what a plan that passes comes to
@@ -54,6 +55,9 @@ singles plan = tally (is plan 115) (length plan)
 
 abbrev pub joins : List ℕ → ℕ
 joins plan = tally (is plan 106) (length plan)
+
+abbrev pub blocks : List ℕ → ℕ
+blocks plan = tally (is plan 97) (length plan)
 
 abbrev pub most : List ℕ → ℕ
 most plan = peak (height plan) (suc (length plan))
