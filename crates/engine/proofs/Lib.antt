@@ -5,5 +5,7 @@ pub mod Joins
 pub mod Loads
 pub mod Steps
 pub mod Turns
+pub mod LetterTurns
 pub mod Readies
+pub mod Answered
 pub mod Serves

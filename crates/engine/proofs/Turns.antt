@@ -1,5 +1,5 @@
 -- One letter of a plan, in the work area and in the state.
-use Rattle.std.proofs.Common.{◌≡◌, ℕ, zero, suc, ◌+◌, ◌-◌, ◌*◌, ◌<◌, ◌≤◌, true, List, [], ◌∷◌, length, take, sym, refl, ap, ◌∙◌, subst, inl, inr, mul-le-mul_right, suc-mul, arith}
+use Rattle.std.proofs.Common.{◌≡◌, ℕ, zero, suc, ◌+◌, ◌-◌, ◌*◌, ◌<◌, ◌≤◌, true, List, [], ◌∷◌, ◌++◌, length, take, sym, refl, ap, ◌∙◌, subst, inl, inr, mul-le-mul_right, suc-mul, arith}
 use Rattle.std.proofs.lemmas.Bool.{cases_lt}
 use Rattle.algebra.specs.Laws.{Laws}
 use Rattle.algebra.specs.Sums.{at}
@@ -16,14 +16,14 @@ use Rattle.engine.specs.Matrices.{cell, Joined, Normal, NormalFrom}
 use Rattle.engine.proofs.Places.{row_in, take_less}
 use Rattle.engine.proofs.Steps.{block_steps}
 
-not_empty : (b : Tree) (bs : List Tree) → b ∷ bs ≡ [] → ⊥
+pub not_empty : (b : Tree) (bs : List Tree) → b ∷ bs ≡ [] → ⊥
 not_empty b bs e = omega (arith, ap length e)
 
-tall : (bs : List Tree) → 0 < length bs → bs ≡ [] → ⊥
+pub tall : (bs : List Tree) → 0 < length bs → bs ≡ [] → ⊥
 tall bs h e = omega (arith, ap length e)
 
 module _ {E : Type 0} (a : Algebra E) (d : ℕ) where
-  more_rows : (n : ℕ) → (n + 1) * (d * d) ≡ n * (d * d) + d * d
+  pub more_rows : (n : ℕ) → (n + 1) * (d * d) ≡ n * (d * d) + d * d
   more_rows n = let e : n + 1 ≡ suc n = omega arith in ap (λ k. k * (d * d)) e ∙ suc-mul n (d * d)
 
   -- the top two matrices lie in the work area
@@ -54,7 +54,7 @@ module _ {E : Type 0} (a : Algebra E) (d : ℕ) (m : ℕ → ℕ → ℕ → a.V
   within n i j h l = omega (arith, row_in i d h, suc-mul n (d * d))
 
   -- the stack stands where the work area is unchanged up to its height
-  stands_still : (stack : List Tree) (now next : List E) → take (length stack * (d * d)) next ≡ take (length stack * (d * d)) now → Stands a d m now stack → Stands a d m next stack
+  pub stands_still : (stack : List Tree) (now next : List E) → take (length stack * (d * d)) next ≡ take (length stack * (d * d)) now → Stands a d m now stack → Stands a d m next stack
   stands_still [] now next e s = tt
   stands_still (b ∷ rest) now next e s = (
     (λ i j h l. at_same_front a.ops.zero a.mean _ next now _ (within (length rest) i j h l) e ∙ s.0 i j h l),
@@ -62,7 +62,7 @@ module _ {E : Type 0} (a : Algebra E) (d : ℕ) (m : ℕ → ℕ → ℕ → a.V
   )
 
   -- what is in normal form up to a place, and from there on
-  normal_more : (n k : ℕ) (now next : List E) → take n next ≡ take n now → Normal a.normal now n → NormalFrom a.normal next n k → Normal a.normal next (n + k)
+  pub normal_more : (n k : ℕ) (now next : List E) → take n next ≡ take n now → Normal a.normal now n → NormalFrom a.normal next n k → Normal a.normal next (n + k)
   normal_more n k now next front below above p h = elim (cases_lt p n) [
     | inl lt ↦ at_same_front true a.normal n next now p lt front ∙ below p lt
     | inr ge ↦ let is : n + (p - n) ≡ p = omega arith in ap (at true a.normal next) (sym is) ∙ above (p - n) (omega arith)
@@ -83,7 +83,7 @@ module _ {E : Type 0} (a : Algebra E) (d : ℕ) (m : ℕ → ℕ → ℕ → a.V
       ∙ sym (steps_append a.ops d m done (places b) start j)
 
   -- the stack after letter j
-  joined_stands : (stack : List Tree) (n : ℕ) (work new : List E) → n ≡ length stack → 2 ≤ n → Stands a d m work stack → Joined a d ((n - 2) * (d * d)) work new
+  pub joined_stands : (stack : List Tree) (n : ℕ) (work new : List E) → n ≡ length stack → 2 ≤ n → Stands a d m work stack → Joined a d ((n - 2) * (d * d)) work new
       → (n - 1 ≡ length (joined stack)) × Stands a d m new (joined stack)
   joined_stands [] n work new e two s done = absurd (omega arith)
   joined_stands (b ∷ []) n work new e two s done = absurd (omega arith)
@@ -101,7 +101,7 @@ module _ {E : Type 0} (a : Algebra E) (d : ℕ) (m : ℕ → ℕ → ℕ → a.V
   module _ (start : ℕ → a.Value) (w : Progress) (top next : ℕ) (state work : List E) (now : Doing a d m start w top next state work) where
     pushed : (new : List E) → take (top * (d * d)) new ≡ take (top * (d * d)) work → NormalFrom a.normal new (top * (d * d)) (d * d)
         → ((i j : ℕ) → i < d → j < d → cell a.ops.zero a.mean new d (top * (d * d)) i j ≡ m next i j)
-        → Doing a d m start (record { stack = Single w.next ∷ w.stack; next = w.next + 1; done = w.done; last = w.last }) (top + 1) (next + 1) state new
+        → Doing a d m start (record { stack = Single w.next ∷ w.stack; next = w.next + 1; done = w.done; last = w.last; blocks = w.blocks }) (top + 1) (next + 1) state new
     pushed new before fine cells = record {
       topped = omega (arith, now.topped);
       nexted = ap (λ n. n + 1) now.nexted;
@@ -116,7 +116,7 @@ module _ {E : Type 0} (a : Algebra E) (d : ℕ) (m : ℕ → ℕ → ℕ → a.V
 
     spent : Laws a.ops → (n : ℕ) (new : List E) → n ≡ d * d → top ≡ 1
         → ((j : ℕ) → j < d → value new j ≡ stepped a.ops d (value state) (λ l i. value (take n work) (l * d + i)) j)
-        → Doing a d m start (record { stack = []; next = w.next; done = applied w.done w.stack; last = w.stack }) 0 next new work
+        → Doing a d m start (record { stack = []; next = w.next; done = applied w.done w.stack; last = w.stack; blocks = w.stack ++ w.blocks }) 0 next new work
     spent laws n new en one made = record {
       topped = refl;
       nexted = now.nexted;
@@ -127,7 +127,7 @@ module _ {E : Type 0} (a : Algebra E) (d : ℕ) (m : ℕ → ℕ → ℕ → a.V
     }
 
     combined : (new : List E) → 2 ≤ top → Joined a d ((top - 2) * (d * d)) work new
-        → Doing a d m start (record { stack = joined w.stack; next = w.next; done = w.done; last = w.last }) (top - 1) next state new
+        → Doing a d m start (record { stack = joined w.stack; next = w.next; done = w.done; last = w.last; blocks = w.blocks }) (top - 1) next state new
     combined new two done =
         let s = joined_stands w.stack top work new now.topped two now.stands done in
         let below : (top - 2) * (d * d) ≤ top * (d * d) = mul-le-mul_right {m = top - 2} {n = top} (d * d) (omega arith) in

@@ -2,3 +2,6 @@ pub mod Matrices
 pub mod Blocks
 pub mod Plain
 pub mod Runs
+pub mod Targets
+pub mod Letters
+pub mod Deliveries

@@ -3,11 +3,13 @@
 --   times o d m n i j     the entry (i, j) of the product m × n, the earlier matrix on the left
 --   Normal f xs n         the first n elements are in normal form
 --   NormalFrom f xs a n   the n elements at place a are
+--   Blocked a d n block k  a list is the matrix of a block of n symbols, 32 at most, row by row in normal form, and a row of k elements
+--                         suffices to help it
 --   Column                one column of a matrix was written
 --   Joined a d p was now  the matrix at place p was multiplied by the one after it
 --   multiplies d n k      the question of a product: is d at most 64, and are there two matrices and a row?
 --   Multiplied            what a product did, and that a refused one did nothing
-use Rattle.std.specs.Prelude.{◌≡◌, ℕ, ◌+◌, ◌*◌, ◌<◌, Bool, true, ◌&&◌, List, take, drop, Ok, Err, Result, ◌≢◌, nat_le}
+use Rattle.std.specs.Prelude.{◌≡◌, ℕ, ◌+◌, ◌*◌, ◌<◌, ◌≤◌, Bool, true, ◌&&◌, List, length, take, drop, Ok, Err, Result, ◌≢◌, nat_le}
 use Rattle.algebra.specs.Laws.{Ops}
 use Rattle.algebra.specs.Sums.{sum, at}
 use Rattle.algebra.specs.declared.Algebra.{Ghosts as Algebra}
@@ -26,6 +28,13 @@ Normal f xs n = (p : ℕ) → p < n → at true f xs p ≡ true
 
 abbrev pub NormalFrom : {E : Type 0} → (E → Bool) → List E → ℕ → ℕ → Type 0
 NormalFrom f xs a n = (p : ℕ) → p < n → at true f xs (a + p) ≡ true
+
+pub record Blocked {E : Type 0} (a : Algebra E) (d n : ℕ) (block : List E) (k : ℕ) : Type 0 where
+  pub small : d ≤ 64
+  pub few : n ≤ 32
+  pub square : length block ≡ d * d
+  pub helped : d ≤ k
+  pub normal : Normal a.normal block (d * d)
 
 -- column j of the matrix at place b is the row, and its other columns are as they were
 pub record Column {E V : Type 0} (z : V) (f : E → V) (row : List E) (b j d : ℕ) (was now : List E) : Type 0 where

@@ -33,7 +33,7 @@ fn load_row<R: Recursion>(r: &R, symbol: u32, i: usize, d: usize, work: &mut [R:
 }
 
 // The matrix of a symbol, at place a.
-fn load<R: Recursion>(r: &R, symbol: u32, d: usize, work: &mut [R::Element], a: usize)
+pub(crate) fn load<R: Recursion>(r: &R, symbol: u32, d: usize, work: &mut [R::Element], a: usize)
     requires d_bound { d ≤ 64 }
     requires d_in_bounds { a + d * d ≤ length work.old }
     ensures before { take a work.new ≡ take a work.old }

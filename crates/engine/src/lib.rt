@@ -2,9 +2,14 @@
 #![tactic(auto)]
 
 mod block;
+mod delivery;
+mod letters;
 mod matrix;
 mod product;
 mod run;
+mod target;
 
+pub use delivery::deliver;
 pub use product::multiply;
 pub use run::{LIMIT, Run};
+pub use target::Target;

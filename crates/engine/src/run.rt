@@ -27,7 +27,7 @@ pub struct Run<'a, E> {
 }
 
 // Is each symbol accepted?
-fn ask_symbols<R: Recursion>(r: &R, symbols: &[u32]) -> Result<(), Refusal>
+pub(crate) fn ask_symbols<R: Recursion>(r: &R, symbols: &[u32]) -> Result<(), Refusal>
     ensures { result ≡ asked (accepted (rule R.Element.Algebra R.Recursion r.now) symbols.now ∷ []) (record {}) }
 {
     for (place, symbol) in symbols.iter().enumerate() {
@@ -39,7 +39,7 @@ fn ask_symbols<R: Recursion>(r: &R, symbols: &[u32]) -> Result<(), Refusal>
 }
 
 // Whether so many matrices of d × d elements find room among so many.
-fn has_room(most: usize, d: usize, room: usize) -> bool
+pub(crate) fn has_room(most: usize, d: usize, room: usize) -> bool
     requires le_d { 1 ≤ d }
     requires d_bound { d ≤ 64 }
     ensures { result ≡ nat_le (most * (d * d)) room }
