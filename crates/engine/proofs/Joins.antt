@@ -1,5 +1,5 @@
 -- One turn of a join: a row of the product takes the place of the row that it was made of, or a column that of its column.
-use Rattle.std.proofs.Common.{◌≡◌, ℕ, ◌+◌, ◌-◌, ◌*◌, ◌/◌, ◌%◌, ◌<◌, ◌≤◌, true, List, length, take, drop, sym, refl, ap, ◌∙◌, subst, inl, inr, mod-lt, suc-mul, mul_comm, div-lt_iff_lt-mul, add-one, arith}
+use Rattle.std.proofs.Common.{◌≡◌, ℕ, ◌+◌, ◌*◌, ◌/◌, ◌%◌, ◌<◌, ◌≤◌, true, List, length, take, drop, sym, refl, ap, ◌∙◌, subst, inl, inr, mod-lt, suc-mul, mul_comm, div-lt_iff_lt-mul, add-one, arith}
 use native.Mathlib.Nat.{div-add-mod}
 use Rattle.std.proofs.lemmas.Bool.{cases_lt, cases_eq}
 use Rattle.algebra.specs.Sums.{at, sum}

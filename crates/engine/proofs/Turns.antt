@@ -1,5 +1,5 @@
 -- One letter of a plan, in the work area and in the state.
-use Rattle.std.proofs.Common.{◌≡◌, ℕ, zero, suc, ◌+◌, ◌-◌, ◌*◌, ◌<◌, ◌≤◌, true, List, [], ◌∷◌, ◌++◌, length, take, sym, refl, ap, ◌∙◌, subst, inl, inr, mul-le-mul_right, suc-mul, arith}
+use Rattle.std.proofs.Common.{◌≡◌, ℕ, suc, ◌+◌, ◌-◌, ◌*◌, ◌<◌, ◌≤◌, true, List, [], ◌∷◌, ◌++◌, length, take, sym, refl, ap, ◌∙◌, subst, inl, inr, mul-le-mul_right, suc-mul, arith}
 use Rattle.std.proofs.lemmas.Bool.{cases_lt}
 use Rattle.algebra.specs.Laws.{Laws}
 use Rattle.algebra.specs.Sums.{at}
@@ -11,7 +11,7 @@ use Rattle.plan.specs.Plans.{Single}
 use Rattle.plan.proofs.Heights.{letter_s, letter_j, letter_a}
 use Rattle.recursion.specs.Steps.{stepped, steps}
 use Rattle.recursion.proofs.Steps.{steps_append}
-use Rattle.engine.specs.Blocks.{Doing, Stands, product}
+use Rattle.engine.specs.Blocks.{Doing, Stands}
 use Rattle.engine.specs.Matrices.{cell, Joined, Normal, NormalFrom}
 use Rattle.engine.proofs.Places.{row_in, take_less}
 use Rattle.engine.proofs.Steps.{block_steps}

@@ -1,5 +1,5 @@
 -- Loops that write a column, and that copy a part down, element by element.
-use Rattle.std.proofs.Common.{◌≡◌, ℕ, ◌+◌, ◌-◌, ◌*◌, ◌<◌, ◌≤◌, ◌≢◌, List, length, get_or, drop, set, sym, refl, ap, ◌∙◌, inl, inr, arith, drop-set-lt, below_more}
+use Rattle.std.proofs.Common.{◌≡◌, ℕ, ◌+◌, ◌*◌, ◌<◌, ◌≤◌, ◌≢◌, List, length, get_or, drop, set, sym, refl, ap, ◌∙◌, inl, inr, arith, drop-set-lt, below_more}
 use Rattle.std.proofs.lemmas.Bool.{cases_lt}
 use Rattle.algebra.specs.Sums.{at}
 use Rattle.algebra.proofs.Places.{at_read, at_set_same, at_set_other, at_same_rest}

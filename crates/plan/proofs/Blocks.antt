@@ -3,7 +3,6 @@ use Rattle.std.proofs.Common.{◌≡◌, ℕ, zero, suc, ◌+◌, ◌-◌, ◌<�
 use Rattle.std.proofs.lemmas.Bool.{cases_eq}
 use Rattle.std.proofs.lemmas.Bool.Decides.{nat_tests}
 use Rattle.plan.specs.Plans.{Tree, Progress, size, joined, letter, after}
-use Rattle.plan.specs.Plans.{Single, Join}
 use Rattle.plan.specs.Asks.{tally, top, height, is, known, finds, makes, singles, joins, blocks}
 use Rattle.plan.proofs.Heights.{letter_s, letter_j, letter_a, after_next, height_s, height_j, height_a, tally_none, tally_yes, tally_no}
 

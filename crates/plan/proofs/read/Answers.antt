@@ -6,7 +6,7 @@ use Rattle.refusal.specs.declared.Refusal.TheVariants.{Unfinished}
 use Rattle.refusal.proofs.Questions.{asked_yes, asked_no, passed_first}
 use Rattle.plan.specs.declared.Tally.{Tally}
 use Rattle.plan.specs.declared.Shape.{Shape}
-use Rattle.plan.specs.Asks.{knows, stands, fits, ends, asks, shape, singles, height, joins, most}
+use Rattle.plan.specs.Asks.{knows, stands, fits, ends, asks, shape, singles, height}
 use Rattle.plan.specs.Tallies.{tallied}
 use Rattle.plan.proofs.read.Goals as goal
 

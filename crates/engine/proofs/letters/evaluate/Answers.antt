@@ -1,5 +1,5 @@
 -- Letter by letter, target and work area follow the plan.
-use Rattle.std.proofs.Common.{◌≡◌, ℕ, ◌+◌, ◌-◌, true, length, get_or, sym, refl, ap, ◌∙◌, subst, arith}
+use Rattle.std.proofs.Common.{◌≡◌, ◌+◌, ◌-◌, true, length, get_or, sym, refl, ◌∙◌, subst, arith}
 use Rattle.std.proofs.lemmas.List.{nil_from_length}
 use Rattle.plan.specs.Plans.{after}
 use Rattle.plan.specs.Asks.{tally, is, blocks, height}

@@ -1,5 +1,5 @@
 -- Each letter does to target and work area what it does to the stack.
-use Rattle.std.proofs.Common.{◌≡◌, ℕ, ◌+◌, ◌-◌, ◌*◌, true, length, take, refl, ap, ◌∙◌, subst, add-zero, arith, length-take-le, rules}
+use Rattle.std.proofs.Common.{◌≡◌, ℕ, ◌+◌, ◌-◌, ◌*◌, true, length, take, ap, ◌∙◌, subst, add-zero, arith, length-take-le, rules}
 use Rattle.recursion.specs.Steps.{rule}
 use Rattle.std.proofs.lemmas.Bool.Decides.{nat_tests}
 use Rattle.engine.specs.Blocks.{chosen}

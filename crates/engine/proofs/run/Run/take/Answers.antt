@@ -2,7 +2,7 @@
 use Rattle.std.proofs.Common.{◌≡◌, ℕ, ◌+◌, ◌*◌, ◌≤◌, true, false, ◌&&◌, eqb, leb, length, Ok, Err, sym, refl, ap, ◌∙◌, subst, arith}
 use Rattle.std.proofs.lemmas.Result.{err_from_is_err_and}
 use Rattle.std.proofs.lemmas.Bool.Decides.{nat_tests}
-use Rattle.plan.specs.Asks.{joins, most, shape}
+use Rattle.plan.specs.Asks.{most, shape}
 use Rattle.recursion.specs.Steps.{rule}
 use Rattle.plan.proofs.Passed.{all_found, all_singles, none_left, shape_is}
 use Rattle.engine.specs.Plain.{limit}
