@@ -11,9 +11,10 @@ use Rattle.code.specs.Symbols.{accepted}
 use Rattle.plan.specs.Plans.{Tree, places, after}
 use Rattle.plan.specs.Asks.{height, singles}
 use Rattle.plan.proofs.Blocks.{Small}
-use Rattle.plan.proofs.Spells.{upto, flat, all_applied}
+use Rattle.plan.proofs.Spells.{upto, flat}
+use Rattle.plan.proofs.Flats.{blocks_spelled}
 use Rattle.engine.specs.Blocks.{chosen}
-use Rattle.engine.specs.Targets.{Fed, untouched, then-block}
+use Rattle.engine.specs.Targets.{Fed, untouched, then_block}
 use Rattle.engine.proofs.Readies.{chosen_all}
 use Rattle.frame_paths.specs.Survivors.{trellis}
 use Rattle.frame_paths.proofs.Blocks.{all_apart}
@@ -34,7 +35,7 @@ module _ (c : Code) (ys zs : List ℕ) (was : Metrics) (store : List ℕ) (old :
       → Fed Applies survivors (states c) (chosen (trellis c) zs) was store ts is store'
       → Holds c (ys ++ symbols_at zs (flat ts)) (state_total is.totals) (rows_in c store' is.rows) × (is.rows ≡ was.rows + length ts)
   fed_holds [] is store' small good untouched = (subst (λ l. Holds c l (state_total was.totals) (rows_in c store was.rows)) (sym (append-nil ys)) old, omega arith)
-  fed_holds (t ∷ ts) is store' small good (then-block t' ts' x y before now block past cells step) =
+  fed_holds (t ∷ ts) is store' small good (then_block t' ts' x y before now block past cells step) =
       let split = map-append (λ p. get_or zs p 0) (flat ts) (places t) in
       let parts = all_apart _ (symbols_at zs (flat ts)) (symbols_at zs (places t)) (subst (All (λ y. accepted y ≡ true)) split good) in
       let ih = fed_holds ts x before small.1 parts.0 past in
@@ -54,6 +55,6 @@ module _ (c : Code) (ys zs : List ℕ) (was : Metrics) (store : List ℕ) (old :
       → Holds c (ys ++ zs) (state_total is.totals) (rows_in c store' is.rows) × (is.rows ≡ was.rows + length (after plan (length plan)).blocks)
   plan_holds plan is store' empty all small good fed =
       let whole : symbols_at zs (flat (after plan (length plan)).blocks) ≡ zs =
-      ap (symbols_at zs) (all_applied plan empty) ∙ chosen_all zs (singles plan) (omega (arith, all)) ∙ ap (λ n. take n zs) all ∙ take_all (length zs) zs (omega arith) in
+      ap (symbols_at zs) (blocks_spelled plan empty) ∙ chosen_all zs (singles plan) (omega (arith, all)) ∙ ap (λ n. take n zs) all ∙ take_all (length zs) zs (omega arith) in
       let held = fed_holds (after plan (length plan)).blocks is store' small (subst (All (λ y. accepted y ≡ true)) (sym whole) good) fed in
       (subst (λ l. Holds c (ys ++ l) (state_total is.totals) (rows_in c store' is.rows)) whole held.0, held.1)

@@ -12,10 +12,10 @@ use Rattle.code.specs.Codes.{states}
 use Rattle.code.specs.Symbols.{accepted}
 use Rattle.plan.specs.Plans.{after}
 use Rattle.plan.specs.Asks.{asks, blocks, joins, shape}
-use Rattle.plan.proofs.Blocks.{Small, all_small, blocks-few, blocks-long}
-use Rattle.plan.proofs.Passed.{all_Known, all_found, all_made, all_singles, none_left}
+use Rattle.plan.proofs.Blocks.{Small, all_small, blocks_few, blocks_long}
+use Rattle.plan.proofs.Passed.{all_known, all_found, all_made, all_singles, none_left}
 use Rattle.engine.specs.Deliveries.{Done, delivery}
-use Rattle.engine.proofs.Answered.{same_answer, passed-plan, passed-symbols, passed-limit}
+use Rattle.engine.proofs.Answered.{same_answer, passed_plan, passed_symbols, passed_limit}
 use Rattle.frame_paths.proofs.Holds.{Holds}
 use Rattle.frame_metrics.specs.Metrics.{Applies}
 use Rattle.frame_metrics.specs.Totals.{has_room}
@@ -47,7 +47,7 @@ module _ (c : Code) (p : Plain) (ys plan : List ℕ) (n k s : ℕ) (few : p.rows
   same_room : asked (asks plan (length ys)) (shape plan) ≡ Ok (shape plan) → length p.symbols + length ys ≤ limit
       → has_room p.rows (states c) s (blocks plan) ≡ leb ((p.rows + blocks plan) * row_words c) s
   same_room passed low =
-      let small : blocks plan ≤ length ys = omega (arith, blocks-few plan (all_Known plan (length ys) (shape plan) (shape plan) passed) (all_found plan (length ys) (shape plan) (shape plan) passed), all_singles plan (length ys) (shape plan) (shape plan) passed) in
+      let small : blocks plan ≤ length ys = omega (arith, blocks_few plan (all_known plan (length ys) (shape plan) (shape plan) passed) (all_found plan (length ys) (shape plan) (shape plan) passed), all_singles plan (length ys) (shape plan) (shape plan) passed) in
       room_same p.rows (length ys) (length p.symbols) s (row_words c) few low (blocks plan) small
 
   asked_same : asked {A = ℕ × ℕ} (delivery (survivor_rule c) ys plan limit (length p.symbols) (has_room p.rows (states c) s (blocks plan)) n k) (length ys, joins plan) ≡ took c p ys plan n k s
@@ -69,13 +69,13 @@ module _ (c : Code) (p : Plain) (ys plan : List ℕ) (was is : Frame) (store sto
   grows : (x : ℕ × ℕ) → plain ≡ Ok x → Grown ys plan was is store store' work' → Follows c (record { symbols = p.symbols ++ ys; rows = p.rows + blocks plan }) is store'
   grows x e g =
       let b = leb ((p.rows + blocks plan) * row_words c) (length store) in
-      let passed = passed-plan (survivor_rule c) ys plan limit (length p.symbols) b (length work) (length row) x e in
-      let known = all_Known plan (length ys) (shape plan) (shape plan) passed in
+      let passed = passed_plan (survivor_rule c) ys plan limit (length p.symbols) b (length work) (length row) x e in
+      let known = all_known plan (length ys) (shape plan) (shape plan) passed in
       let found = all_found plan (length ys) (shape plan) (shape plan) passed in
       let empty = none_left plan (length ys) (shape plan) (shape plan) passed in
       let all = all_singles plan (length ys) (shape plan) (shape plan) passed in
-      let low = passed-limit (survivor_rule c) ys plan limit (length p.symbols) b (length work) (length row) x e in
-      let good = all_of (λ y. accepted y ≡ true) ys (passed-symbols (survivor_rule c) ys plan limit (length p.symbols) b (length work) (length row) x e) in
+      let low = passed_limit (survivor_rule c) ys plan limit (length p.symbols) b (length work) (length row) x e in
+      let good = all_of (λ y. accepted y ≡ true) ys (passed_symbols (survivor_rule c) ys plan limit (length p.symbols) b (length work) (length row) x e) in
       let small : Small (after plan (length plan)).blocks =
       subst (λ st. Small (st ++ (after plan (length plan)).blocks)) (nil_from_length (after plan (length plan)).stack empty) (all_small plan (all_made plan (length ys) (shape plan) (shape plan) passed) (length plan) (omega arith)) in
       let done = subst (λ z. Done Applies survivors (survivor_rule z) ys plan was.metrics is.metrics store store' work') old.of g.done in
@@ -84,8 +84,8 @@ module _ (c : Code) (p : Plain) (ys plan : List ℕ) (was is : Frame) (store sto
       record {
         of = g.same ∙ old.of;
         counted = g.counted ∙ omega (arith, old.counted, long);
-        rowed = held.1 ∙ omega (arith, old.rowed, blocks-long plan known found (length plan) (omega arith));
-        few = omega (arith, old.few, long, blocks-few plan known found, all);
+        rowed = held.1 ∙ omega (arith, old.rowed, blocks_long plan known found (length plan) (omega arith));
+        few = omega (arith, old.few, long, blocks_few plan known found, all);
         within = omega (arith, long, low);
         holds = held.0;
       }

@@ -7,7 +7,8 @@ use Rattle.refusal.specs.Questions.{Question, asked, once}
 use Rattle.refusal.proofs.Questions.{asked_yes, asked_no, asked_first, asked_rest, passed_first, passed_rest}
 use Rattle.code.specs.Codes.{k3}
 use Rattle.plan.specs.Asks.{asks, blocks, ends, fits, joins, knows, most, stands}
-use Rattle.engine.specs.Deliveries.{accepted, within}
+use Rattle.engine.specs.Plain.{accepted}
+use Rattle.engine.specs.Deliveries.{within}
 use Rattle.frame.specs.Plain.{Plain, limit, settled, survivor_rule, taken, took}
 use Rattle.frame_report.specs.Deliveries.{after, answered, grown, kept, store_words}
 use Rattle.frame_report.specs.Fields.{fields, numbers, short, text_asks}

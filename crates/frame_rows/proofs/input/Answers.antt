@@ -5,11 +5,11 @@ use Rattle.code.proofs.Sizes.{states_even}
 use Rattle.frame_rows.proofs.Traces.{halved, some_half}
 use Rattle.frame_rows.proofs.input.Goals as goal
 
-pub nonzero-div-result-2 : goal.nonzero-div-result-2
-nonzero-div-result-2 c = some_half c.args.code _ c.states.ensures
+pub nonzero_div-result-2 : goal.nonzero_div-result-2
+nonzero_div-result-2 c = some_half c.args.code _ c.states.ensures
 
-pub overflow-cast-result : goal.overflow-cast-result
-overflow-cast-result c =
+pub overflow_cast-result : goal.overflow_cast-result
+overflow_cast-result c =
     let code = c.args.code in
     let n = c.states.ensures in
     omega (arith, div_below c.args.state _ 2 (some_half code _ n) (omega (arith, halved code _ n, states_even code, c.requires)))

@@ -9,7 +9,7 @@ pub loop-t-init : goal.loop-t-init
 loop-t-init c =
     let bits = c.args.bits.now in
     let path = traced c.args.code (length bits) c.args.state c.args.word in
-    (c.requires.0, refl, sym (ap (λ l. path ++ l) (drop_all (length bits) bits (omega arith)) ∙ append-nil path))
+    (c.requires.state_bound, refl, sym (ap (λ l. path ++ l) (drop_all (length bits) bits (omega arith)) ∙ append-nil path))
 
 pub loop-t-preserved : goal.loop-t-preserved
 loop-t-preserved c =

@@ -12,27 +12,30 @@ pub loop-k-init : goal.loop-k-init
 loop-k-init c =
     let bits = c.args.bits.now in
     let all = decoded c.args.code (rows_in c.args.code c.args.store.now c.args.rows) c.args.state in
-    (c.requires.0, c.requires.2, c.requires.3, omega arith, sym (ap (λ l. all ++ l) (drop_all (length bits) bits (omega arith)) ∙ append-nil all))
+    (c.requires.state_bound, c.requires.rows_value, c.requires.rows_value_2, omega arith, sym (ap (λ l. all ++ l) (drop_all (length bits) bits (omega arith)) ∙ append-nil all))
 
-pub read-row-length-requires : goal.read-row-length-requires
-read-row-length-requires c =
-    (c.loop-k.invariant.0, row_inside (c.loop-k.k - 1) c.args.rows (row_words c.args.code) (length c.args.store.now) (omega arith) c.requires.1)
+pub read_row-length-requires : goal.read_row-length-requires
+read_row-length-requires c =
+    record {
+      state_bound = c.loop-k.invariant.0;
+      code_in_bounds = row_inside (c.loop-k.k - 1) c.args.rows (row_words c.args.code) (length c.args.store.now) (omega arith) c.requires.code_in_bounds;
+    }
 
-pub overflow-sub-start : goal.overflow-sub-start
-overflow-sub-start c =
-    let read = c.read-row-length in
+pub overflow_sub-start : goal.overflow_sub-start
+overflow_sub-start c =
+    let read = c.read_row-length in
     (latest c.args.code c.args.store.now c.loop-k.k c.loop-k.state read.result.0 read.result.1 c.loop-k-test.true read.ensures.steps read.ensures.word c.loop-k.end c.loop-k.invariant.1 c.loop-k.invariant.2).fits
 
-pub trace-row-state-requires : goal.trace-row-state-requires
-trace-row-state-requires c =
-    let read = c.read-row-length in
+pub trace_row-state-requires : goal.trace_row-state-requires
+trace_row-state-requires c =
+    let read = c.read_row-length in
     let row = latest c.args.code c.args.store.now c.loop-k.k c.loop-k.state read.result.0 read.result.1 c.loop-k-test.true read.ensures.steps read.ensures.word c.loop-k.end c.loop-k.invariant.1 c.loop-k.invariant.2 in
-    (c.loop-k.invariant.0, simp length-take (omega arith))
+    record { state_bound = c.loop-k.invariant.0; bits_len_bound = simp length-take (omega arith) }
 
 pub loop-k-preserved : goal.loop-k-preserved
 loop-k-preserved c =
-    let read = c.read-row-length in
-    let traced = c.trace-row-state in
+    let read = c.read_row-length in
+    let traced = c.trace_row-state in
     let end = c.loop-k.end in
     let start = end - read.result.0 in
     let row = latest c.args.code c.args.store.now c.loop-k.k c.loop-k.state read.result.0 read.result.1 c.loop-k-test.true read.ensures.steps read.ensures.word end c.loop-k.invariant.1 c.loop-k.invariant.2 in

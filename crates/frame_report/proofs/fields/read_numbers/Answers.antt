@@ -12,7 +12,7 @@ loop-place-preserved c =
     let line = c.args.line.now in
     let n = c.loop-place.place in
     let within : n < length c.loop-place.numbers = omega arith in
-    let here = sym c.in-Some.is ∙ c.number_of_field.ensures ∙ ap number_of_field (cut_field line n _ _ (omega arith) c.min-end.ensures) in
+    let here = sym c.in-Some.is ∙ c.field_number.ensures ∙ ap number_of_field (cut_field line n _ _ (omega arith) c.min-end.ensures) in
     below_more _ _
     (λ k h. let ne : k ≢ n = omega arith in ((c.loop-place.invariant k h).0, get_or-set_other _ n k _ 0 ne ∙ (c.loop-place.invariant k h).1))
     (ap is_some (sym here), get_or-set_same _ n _ 0 within ∙ ap (λ o. unwrap_or o 0) here)
@@ -21,7 +21,7 @@ pub returns-in-None : goal.returns-in-None
 returns-in-None c =
     let line = c.args.line.now in
     let n = c.loop-place.place in
-    let here = sym c.in-None.is ∙ c.number_of_field.ensures ∙ ap number_of_field (cut_field line n _ _ (omega arith) c.min-end.ensures) in
+    let here = sym c.in-None.is ∙ c.field_number.ensures ∙ ap number_of_field (cut_field line n _ _ (omega arith) c.min-end.ensures) in
     record {
       answer = sym (asked_no (fields line) [] (field_count line) n (omega arith) (ap is_some (sym here)) (λ k h. (c.loop-place.invariant k h).0));
       read = tt;
