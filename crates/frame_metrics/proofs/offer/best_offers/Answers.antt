@@ -9,7 +9,7 @@ use Rattle.frame_metrics.specs.Totals.{most_cost}
 use Rattle.frame_metrics.proofs.Keys.{best_none, best_skip, best_some}
 use Rattle.frame_metrics.proofs.Parts.{get_d_part}
 use Rattle.frame_metrics.proofs.offer.best_offers.Goals as goal
-use Rattle.frame_metrics.proofs.offer.best_offers.Goals.{in-Some, in-default}
+use Rattle.frame_metrics.proofs.offer.best_offers.Goals.{in-Some, in_default}
 
 -- no offer, and so no total
 low_none : (most j : ℕ) → key_high (get_or (replicate 64 no_offer) j 0) ≤ most + most_cost
@@ -26,8 +26,8 @@ loop-i-init c = (
   λ most h j. low_none most j,
 )
 
-pub slice-bounds-offer-row-end : goal.slice-bounds-offer-row-end
-slice-bounds-offer-row-end c = omega (arith, row_in c.loop-i.i c.args.d (omega arith))
+pub slice_bounds-offer_row-end : goal.slice_bounds-offer_row-end
+slice_bounds-offer_row-end c = omega (arith, row_in c.loop-i.i c.args.d (omega arith))
 
 pub loop-i-preserved : goal.loop-i-preserved
 loop-i-preserved c =
@@ -37,20 +37,20 @@ loop-i-preserved c =
     let m = c.args.matrix.now in
     elim c.match-totals-i.branch [
       | in-Some w ↦ (
-        ap length w.best-is ∙ w.offer-row.auto.best ∙ c.loop-i.invariant.0,
+        ap length w.best-is ∙ w.offer_row.auto.best ∙ c.loop-i.invariant.0,
         λ j h.
             let inside : j < length (take ((i * d + d) - i * d) (drop (i * d) m)) = simp (length-take, length-drop) (omega (arith, row_in i d (omega arith))) in
             ap (λ l. get_or l j 0) w.best-is
-            ∙ w.offer-row.ensures.better j inside
+            ∙ w.offer_row.ensures.better j inside
             ∙ ap₂ (λ (k : ℕ) r. bettered k w.in-Some.total r) (c.loop-i.invariant.1 j h) (get_d_part none_row m (i * d) (i * d + d) j (omega arith))
             ∙ sym (best_some totals m d j i w.in-Some.total w.in-Some.is),
         λ most h j.
             let under : w.in-Some.total ≤ most = subst (λ (o : Option ℕ). unwrap_or o 0 ≤ most) w.in-Some.is (h i) in
-            subst (λ l. key_high (get_or l j 0) ≤ most + most_cost) (sym w.best-is) (w.offer-row.ensures.low most j under (c.loop-i.invariant.2 most h j)),
+            subst (λ l. key_high (get_or l j 0) ≤ most + most_cost) (sym w.best-is) (w.offer_row.ensures.low most j under (c.loop-i.invariant.2 most h j)),
       )
-      | in-default w ↦ (
+      | in_default w ↦ (
         ap length w.best-is ∙ c.loop-i.invariant.0,
-        λ j h. ap (λ l. get_or l j 0) w.best-is ∙ c.loop-i.invariant.1 j h ∙ sym (best_skip totals m d j i w.in-default.is),
+        λ j h. ap (λ l. get_or l j 0) w.best-is ∙ c.loop-i.invariant.1 j h ∙ sym (best_skip totals m d j i w.in_default.is),
         λ most h j. subst (λ l. key_high (get_or l j 0) ≤ most + most_cost) (sym w.best-is) (c.loop-i.invariant.2 most h j),
       )
     ]

@@ -8,6 +8,6 @@ pub loop-j-preserved : goal.loop-j-preserved
 loop-j-preserved c =
     let j = c.loop-j.j in
     let low : j < length c.loop-j.totals = omega arith in (
-      below_more _ _ (λ q h. let ne : q ≢ j = omega arith in rw get_or-set_other (c.loop-j.invariant.0 q h)) (rw get_or-set_same c.total-of.ensures),
-      drop-set-lt (j + 1) c.loop-j.totals j c.total-of.result (omega arith) ∙ drop_more (j + 1) j c.loop-j.totals c.args.totals.now (omega arith) c.loop-j.invariant.1,
+      below_more _ _ (λ q h. let ne : q ≢ j = omega arith in rw get_or-set_other (c.loop-j.invariant.0 q h)) (rw get_or-set_same c.total_of.ensures),
+      drop-set-lt (j + 1) c.loop-j.totals j c.total_of.result (omega arith) ∙ drop_more (j + 1) j c.loop-j.totals c.args.totals.now (omega arith) c.loop-j.invariant.1,
     )

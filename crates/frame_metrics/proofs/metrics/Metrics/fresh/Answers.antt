@@ -18,8 +18,8 @@ low j =
       | inr other ↦ subst (λ (o : Option ℕ). unwrap_or o 0 ≤ 0) (sym (fresh j (omega arith))) (omega arith)
     ]
 
-pub invariant-of-result : goal.invariant-of-result
-invariant-of-result c = (refl, (lit≤ tt, (low, tt)))
+pub invariant_of-result : goal.invariant_of-result
+invariant_of-result c = record { full = refl; few = lit≤ tt; low = low }
 
 pub returns : goal.returns
 returns c = record { start = refl; others = fresh; rows = refl }

@@ -15,26 +15,26 @@ use Rattle.frame_metrics.proofs.Rooms.{may_not, may_parts, room_after, room_for,
 use Rattle.frame_metrics.proofs.Selects.{low_after, others_stay, total_is}
 use Rattle.frame_metrics.proofs.metrics.Metrics.select.Goals as goal
 
-pub returns-then-not-may-select : goal.returns-then-not-may-select
-returns-then-not-may-select c =
+pub returns-then-not-may_select : goal.returns-then-not-may_select
+returns-then-not-may_select c =
     let was = c.args.self.now in record {
-      selected = λ room small square short fine. absurd (may_not was.rows c.args.d c.args.symbols (length c.args.matrix.now) (length c.args.store.now) c.if-not-may-select.ensures room small square short);
+      selected = λ room small square short fine. absurd (may_not was.rows c.args.d c.args.symbols (length c.args.matrix.now) (length c.args.store.now) c.if-not-may_select.ensures room small square short);
       stays = λ e. (refl, refl);
       long = refl;
       room = λ n. room_less was.rows c.args.d (length c.args.store.now) n;
     }
 
-pub invariant-of-self : goal.invariant-of-self
-invariant-of-self c =
+pub invariant_of-self : goal.invariant_of-self
+invariant_of-self c =
     let was = c.args.self.now in
     let d = c.args.d in
-    let best = c.best-offers-best.result in
-    let ok = may_parts was.rows d c.args.symbols (length c.args.matrix.now) (length c.args.store.now) c.if-not-may-select.ensures in
+    let best = c.best_offers-best.result in
+    let ok = may_parts was.rows d c.args.symbols (length c.args.matrix.now) (length c.args.store.now) c.if-not-may_select.ensures in
     let room = room_for was.rows d (length c.args.store.now) ok.3 in
-    let long : length (take (d - 0) best) ≡ d = simp length-take (omega (arith, c.best-offers-best.ensures.long)) in
+    let long : length (take (d - 0) best) ≡ d = simp length-take (omega (arith, c.best_offers-best.ensures.long)) in
     let same : (j : ℕ) → j < d → get_or (take (d - 0) best) j 0 ≡ get_or best j 0 = λ j h. get_or-take (d - 0) best j 0 (omega arith) in
-    let low = low_after best (take (d - 0) best) d long same was.totals c.settle.new.totals c.settle.ensures.settled c.settle.ensures.rest was.rows was.low (c.best-offers-best.ensures.low (most_cost * was.rows) was.low) in
-    (c.settle.auto.totals ∙ was.full, (room.0, (low, tt)))
+    let low = low_after best (take (d - 0) best) d long same was.totals c.settle.new.totals c.settle.ensures.settled c.settle.ensures.rest was.rows was.low (c.best_offers-best.ensures.low (most_cost * was.rows) was.low) in
+    record { full = c.settle.auto.totals ∙ was.full; few = room.0; low = low }
 
 pub returns : goal.returns
 returns c =
@@ -42,15 +42,15 @@ returns c =
     let d = c.args.d in
     let store = c.args.store.now in
     let matrix = c.args.matrix.now in
-    let best = c.best-offers-best.result in
+    let best = c.best_offers-best.result in
     let start = was.rows * (1 + d) in
     let k = (start + (1 + d)) - start in
-    let row = c.write-row.new.row in
-    let ok = may_parts was.rows d c.args.symbols (length matrix) (length store) c.if-not-may-select.ensures in
+    let row = c.write_row.new.row in
+    let ok = may_parts was.rows d c.args.symbols (length matrix) (length store) c.if-not-may_select.ensures in
     let room_is = room_for was.rows d (length store) ok.3 in
-    let long : length (take (d - 0) best) ≡ d = simp length-take (omega (arith, c.best-offers-best.ensures.long)) in
+    let long : length (take (d - 0) best) ≡ d = simp length-take (omega (arith, c.best_offers-best.ensures.long)) in
     let same : (j : ℕ) → j < d → get_or (take (d - 0) best) j 0 ≡ get_or best j 0 = λ j h. get_or-take (d - 0) best j 0 (omega arith) in
-    let row-long : length row ≡ 1 + d = c.write-row.auto.row ∙ simp (length-take, length-drop) (omega arith) in
+    let row-long : length row ≡ 1 + d = c.write_row.auto.row ∙ simp (length-take, length-drop) (omega arith) in
     let store_long : length (put_mid start k store row) ≡ length store = simp (length-append, length-take, length-drop) (omega arith) in
     let first : start + 0 ≡ start = omega arith in
     let low : (i : ℕ) → total_of was.totals i ≤ most_cost * most_rows = λ i. omega (arith, was.low i, was.few) in
@@ -58,18 +58,18 @@ returns c =
       selected = λ room small square short fine. record {
         counted = refl;
         gets = λ j h.
-            let key = c.best-offers-best.ensures.best j h in
+            let key = c.best_offers-best.ensures.best j h in
             let total = total_is best (take (d - 0) best) d long same was.totals c.settle.new.totals c.settle.ensures.settled c.settle.ensures.rest j h ∙ ap key_total key in
-            let word = get_or_written 0 start k store row (1 + j) (omega arith) (omega arith) ∙ c.write-row.ensures.words j (omega arith) ∙ ap key_word (same j h ∙ key) in
+            let word = get_or_written 0 start k store row (1 + j) (omega arith) (omega arith) ∙ c.write_row.ensures.words j (omega arith) ∙ ap key_word (same j h ∙ key) in
             let gets = best_gets was.totals matrix d j square fine low h d (omega arith) in
             subst (λ x. Gets d (state_total was.totals) (entries matrix d) j (state_total c.settle.new.totals j) x) (sym word)
             (subst (λ o. Gets d (state_total was.totals) (entries matrix d) j o (key_word (best_key was.totals matrix d j d))) (sym total) gets);
-        steps = ap (λ (n : ℕ). get_or (put_mid start k store row) n 0) (sym first) ∙ get_or_written 0 start k store row 0 (omega arith) (omega arith) ∙ c.write-row.ensures.steps;
+        steps = ap (λ (n : ℕ). get_or (put_mid start k store row) n 0) (sym first) ∙ get_or_written 0 start k store row 0 (omega arith) (omega arith) ∙ c.write_row.ensures.steps;
         before = take-put_mid_below start k store row start (omega arith) (omega arith);
         after = drop-put_mid start k store row ((was.rows + 1) * (1 + d)) (omega arith) (omega arith) (omega arith);
         others = others_stay best (take (d - 0) best) d long same was.totals c.settle.new.totals c.settle.ensures.settled c.settle.ensures.rest;
       };
-      stays = λ e. absurd (both_ways _ e (sym c.if-not-may-select.ensures));
+      stays = λ e. absurd (both_ways _ e (sym c.if-not-may_select.ensures));
       long = store_long;
       room = λ n h. rw store_long (room_after was.rows d (length store) n h);
     }
