@@ -4,7 +4,7 @@ use Rattle.engine.proofs.Answered.{passed_limit}
 use Rattle.frame.specs.Plain.{limit, survivor_rule}
 use Rattle.frame.proofs.Frame.take.Goals as goal
 
-pub overflow-add-self : goal.overflow-add-self
-overflow-add-self c =
-    let low = passed_limit (survivor_rule c.args.self.now.code) c.args.symbols.now c.args.plan.now limit c.args.self.now.steps _ _ _ _ (sym c.in-ok-answer.ensures.answer) in
+pub overflow_add-self : goal.overflow_add-self
+overflow_add-self c =
+    let low = passed_limit (survivor_rule c.args.self.now.code) c.args.symbols.now c.args.plan.now limit c.args.self.now.steps _ _ _ _ (sym c.in_ok-answer.ensures.answer) in
     search rules
