@@ -22,7 +22,7 @@ pub const BYTES: usize = 1_000_000;
 fn code_named(line: &[u8]) -> Result<Code, Refusal>
     ensures { result ≡ coded line.now }
 {
-    if line == b"k3" {
+    if line == b"k3".as_slice() {
         by_name("k3")
     } else {
         Err(Refusal::Name)

@@ -16,7 +16,7 @@ unfolding lib.Utf8.encode
 loop-bit-preserved c =
     let bits = c.args.bits.now in
     let i = c.loop-bit.bit-index in
-    let more = c.in-ok-push.ensures.bytes in
+    let more = c.in_ok-push.ensures.bytes in
     turn (string_bytes c.args.out.now) (string_bytes c.loop-bit.out) _ bits i c.loop-bit-test.true c.loop-bit.invariant
     (elim c.if-bit-eq0.branch [
       | then-bit-eq0 w ↦ rw (eq-eqb (get_or bits i 0) 0 w.if-bit-eq0.true) (rw w.push-is at more)

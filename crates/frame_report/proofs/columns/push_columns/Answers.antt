@@ -10,4 +10,4 @@ pub returns : goal.returns
 unfolding lib.Utf8.encode
 returns c =
     pieces (string_bytes c.args.out.now) _ _ _ _ _ (right 6 c.args.symbols) (right 6 c.args.joins) (right 4 c.args.refusal) (right 6 c.args.place) (10 ∷ [])
-    c.in-ok-push-right.ensures c.in-ok-push-right-2.ensures c.in-ok-push-right-3.ensures c.in-ok-push-right-4.ensures c.in-ok-push.ensures.bytes
+    c.in_ok-push_right.ensures c.in_ok-push_right-2.ensures c.in_ok-push_right-3.ensures c.in_ok-push_right-4.ensures c.in_ok-push.ensures.bytes

@@ -10,4 +10,4 @@ pub returns : goal.returns
 unfolding lib.Utf8.encode
 returns c =
     pieces (string_bytes c.args.out.now) _ _ _ _ _ (right 6 c.args.cost) (right 4 0) (characters c.args.bits.now) (10 ∷ [])
-    c.in-ok-push-right.ensures c.in-ok-push-right-2.ensures c.in-ok-push.ensures.bytes c.in-ok-push-bits.ensures c.in-ok-push-2.ensures.bytes
+    c.in_ok-push_right.ensures c.in_ok-push_right-2.ensures c.in_ok-push.ensures.bytes c.in_ok-push_bits.ensures c.in_ok-push-2.ensures.bytes

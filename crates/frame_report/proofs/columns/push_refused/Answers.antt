@@ -12,4 +12,4 @@ unfolding lib.Utf8.encode
 returns c =
     let shown = c.number.ensures in
     pieces (string_bytes c.args.out.now) _ _ _ (right 6 0) (right 4 (number c.args.refusal)) (10 ∷ [])
-    c.in-ok-push-right.ensures (rw shown at c.in-ok-push-right-2.ensures) c.in-ok-push.ensures.bytes
+    c.in_ok-push_right.ensures (rw shown at c.in_ok-push_right-2.ensures) c.in_ok-push.ensures.bytes

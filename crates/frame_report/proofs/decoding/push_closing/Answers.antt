@@ -6,14 +6,14 @@ use Rattle.frame_report.proofs.decoding.push_closing.Goals as goal
 
 pub returns-in-Ok : goal.returns-in-Ok
 returns-in-Ok c =
-    IfOk-weaker c.push-decoded.result _ _
+    IfOk-weaker c.push_decoded.result _ _
     (λ x written p follows bounded counted. closes c.args.frame.now c.args.store.now c.args.bits.now _ c.requires.store c.requires.bits p follows bounded
     c.in-Ok.cost c.args.taken _ _ c.in-Ok.ensures.traced counted (simp sub-zero at written))
-    c.push-decoded.ensures
+    c.push_decoded.ensures
 
 pub returns-in-Err : goal.returns-in-Err
 returns-in-Err c =
-    IfOk-weaker c.push-refused.result _ _
+    IfOk-weaker c.push_refused.result _ _
     (λ x written p follows bounded counted. absurd (never_refused c.args.frame.now c.args.store.now c.args.bits.now _ c.requires.store c.requires.bits p follows bounded
     c.in-Err.refusal c.in-Err.ensures.traced))
-    c.push-refused.ensures
+    c.push_refused.ensures

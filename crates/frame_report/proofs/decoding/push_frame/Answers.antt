@@ -5,8 +5,8 @@ use Rattle.frame.specs.Histories.{begun}
 use Rattle.frame_report.proofs.Closings.{shows}
 use Rattle.frame_report.proofs.decoding.push_frame.Goals as goal
 
-pub push-deliveries-requires : goal.push-deliveries-requires
-push-deliveries-requires c =
+pub push_deliveries-requires : goal.push_deliveries-requires
+push_deliveries-requires c =
     record {
       work = refl;
       row = refl;
@@ -14,11 +14,11 @@ push-deliveries-requires c =
       fresh = record { first = c.args.frame; noise = _; calls = []; whole = c.requires.fresh; counts = c.requires.counted; history = begun; holds = refl };
     }
 
-pub push-closing-requires : goal.push-closing-requires
-push-closing-requires c =
-    let lines = c.in-ok-push-deliveries.ensures in
+pub push_closing-requires : goal.push_closing-requires
+push_closing-requires c =
+    let lines = c.in_ok-push_deliveries.ensures in
     record { taken = omega (arith, c.steps.ensures, lines.counted, lines.bounded.symbols); store = search rules; bits = refl }
 
 pub returns : goal.returns
 returns c =
-    IfOk-weaker c.push-closing.result _ _ (λ x closing. shows _ _ _ _ _ _ _ c.steps.ensures c.in-ok-push-deliveries.ensures closing) c.push-closing.ensures
+    IfOk-weaker c.push_closing.result _ _ (λ x closing. shows _ _ _ _ _ _ _ c.steps.ensures c.in_ok-push_deliveries.ensures closing) c.push_closing.ensures

@@ -31,8 +31,8 @@ pub returns : goal.returns
 unfolding numbers
 returns c =
     let line = c.args.line.now in
-    let count : c.div-ceil-count.result ≡ field_count line = omega arith in
-    let long : c.div-ceil-count.result ≤ length c.loop-place.numbers = omega arith in
+    let count : c.div_ceil-count.result ≡ field_count line = omega arith in
+    let long : c.div_ceil-count.result ≤ length c.loop-place.numbers = omega arith in
     record {
       answer = ap Ok count ∙ sym (asked_yes (fields line) [] (field_count line) (λ k h. (c.loop-place.invariant k (omega arith)).0));
       read = rw count (fill_by_all (number_at line) _ (field_count line) 0 (length-take-le _ _ (omega arith)) (λ k h. get_or-take _ _ k 0 h ∙ (c.loop-place.invariant k (omega arith)).1));

@@ -17,21 +17,21 @@ returns-then-plan-gt-LINE c =
     ⊎_elim (λ h. and_left _ _ (lt-leb (length plan) 200 h)) (λ h. and_right _ _ (lt-leb (length line) 200 h.1)) c.then-plan-gt-LINE.either in
     gave_refused plan line c.args.frame.now c.args.store.now (Text 0) (long_text plan line long)
 
-pub returns-in-err-count : goal.returns-in-err-count
-returns-in-err-count c =
+pub returns-in_err-count : goal.returns-in_err-count
+returns-in_err-count c =
     let plan = c.args.plan.now in
     let line = c.args.line.now in
     let both : short plan && short line ≡ true = and_from _ _ (le-leb (length plan) 200 c.if-plan-gt-LINE.false) (le-leb (length line) 200 c.if-line-gt-LINE.false) in
-    let p = err_from_is_err_and c.from-residual.result c.from-residual.ensures.1 in
+    let p = err_from_is_err_and c.from_residual.result c.from_residual.ensures.1 in
     rw (p.1, p.2)
-    (gave_refused plan line c.args.frame.now c.args.store.now _ (bad_field plan line (field_count line) _ both c.in-err-count.ensures.answer))
+    (gave_refused plan line c.args.frame.now c.args.store.now _ (bad_field plan line (field_count line) _ both c.in_err-count.ensures.answer))
 
 pub returns : goal.returns
 returns c =
     let plan = c.args.plan.now in
     let line = c.args.line.now in
     let both : short plan && short line ≡ true = and_from _ _ (le-leb (length plan) 200 c.if-plan-gt-LINE.false) (le-leb (length line) 200 c.if-line-gt-LINE.false) in
-    let read = c.in-ok-count.ensures in
-    let same : take (c.in-ok-count.count - 0) c.read-numbers.new.numbers ≡ numbers line = rw sub-zero read.read in
+    let read = c.in_ok-count.ensures in
+    let same : take (c.in_ok-count.count - 0) c.read_numbers.new.numbers ≡ numbers line = rw sub-zero read.read in
     gave_taken plan line c.args.frame.now c.args.store.now _ c.args.work.now c.args.row.now _ _ _ _ _ c.if-plan-gt-LINE.false
     (good_text plan line (field_count line) _ both read.answer) same c.requires.work c.requires.row c.requires.store c.take.ensures.took

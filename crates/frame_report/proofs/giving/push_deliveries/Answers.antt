@@ -13,16 +13,16 @@ pub loop-rest-smaller : goal.loop-rest-smaller
 loop-rest-smaller c =
     let rest = c.loop-rest.rest.now in
     let some : 0 < length rest = search rules in
-    let third = c.split-line-in-loop-rest.ensures.rest ∙ ap rest_of c.split-line.ensures.rest in
+    let third = c.split_line-in-loop-rest.ensures.rest ∙ ap rest_of c.split_line.ensures.rest in
     omega (arith, rest_rest_shorter rest some, ap length third)
 
 pub loop-rest-preserved : goal.loop-rest-preserved
 loop-rest-preserved c =
     let rest = c.loop-rest.rest.now in
     let some : 0 < length rest = search rules in
-    let third = c.split-line-in-loop-rest.ensures.rest ∙ ap rest_of c.split-line.ensures.rest in
-    let gave = at_lines rest _ _ _ c.loop-rest.frame _ c.loop-rest.store _ _ c.split-line.ensures.line c.split-line.ensures.rest c.split-line-in-loop-rest.ensures.line c.give-answer.ensures in
-    rw third (going_more _ _ rest (string_bytes c.loop-rest.out) (string_bytes c.push-delivery.new.out) _ _ _ _ _ some c.loop-rest.invariant gave c.in-ok-push-delivery.ensures)
+    let third = c.split_line-in-loop-rest.ensures.rest ∙ ap rest_of c.split_line.ensures.rest in
+    let gave = at_lines rest _ _ _ c.loop-rest.frame _ c.loop-rest.store _ _ c.split_line.ensures.line c.split_line.ensures.rest c.split_line-in-loop-rest.ensures.line c.give-answer.ensures in
+    rw third (going_more _ _ rest (string_bytes c.loop-rest.out) (string_bytes c.push_delivery.new.out) _ _ _ _ _ some c.loop-rest.invariant gave c.in_ok-push_delivery.ensures)
 
 pub returns : goal.returns
 returns c =
