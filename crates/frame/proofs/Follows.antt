@@ -2,7 +2,7 @@
 use Rattle.std.proofs.Common.{◌≡◌, ℕ, suc, ◌+◌, ◌*◌, ◌<◌, ◌≤◌, Bool, true, ◌&&◌, leb, List, [], ◌∷◌, ◌++◌, length, get_or, Ok, Err, Result, sym, refl, ap, ◌∙◌, subst, arith, length-append}
 use Rattle.std.proofs.lemmas.List.{nil_from_length}
 use Rattle.std.proofs.lemmas.Bool.Decides.{nat_tests}
-use Rattle.std.specs.List.{AllByRecursion as All}
+use Rattle.std.specs.List.{AllByRecursion}
 use Rattle.refusal.specs.declared.Refusal.{Refusal}
 use Rattle.refusal.specs.Questions.{asked}
 use Rattle.algebra_survivor.specs.declared.Survivor.{Survivor}
@@ -35,7 +35,7 @@ pub record Follows (c : Code) (p : Plain) (f : Frame) (store : List ℕ) : Type 
   pub holds : Holds c p.symbols (state_total f.metrics.totals) (rows_in c store f.metrics.rows)
 
 -- what holds of each place holds of all elements
-all_of : (P : ℕ → Type 0) (xs : List ℕ) → ((p : ℕ) → p < length xs → P (get_or xs p 0)) → All P xs
+all_of : (P : ℕ → Type 0) (xs : List ℕ) → ((p : ℕ) → p < length xs → P (get_or xs p 0)) → AllByRecursion P xs
 all_of P [] each = tt
 all_of P (x ∷ xs) each = (each 0 (omega arith), all_of P xs (λ p h. each (suc p) (omega arith)))
 

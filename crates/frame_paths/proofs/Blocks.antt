@@ -2,7 +2,7 @@
 use Rattle.std.proofs.Common.{◌≡◌, ℕ, ◌+◌, ◌*◌, ◌%◌, ◌^◌, ◌<◌, ◌≤◌, Bool, true, false, ◌&&◌, List, [], ◌∷◌, ◌++◌, length, get_or, sym, refl, ap, ◌∙◌, subst, ap₂, arith, length-append}
 use mathlib.Core.List.{map-append}
 use lib.ListN.{length-map}
-use Rattle.std.specs.List.{AllByRecursion as All}
+use Rattle.std.specs.List.{AllByRecursion}
 use Rattle.std.proofs.lemmas.Bool.{and_from, both_ways}
 use Rattle.algebra_survivor.specs.Survivors.{longest, Path, none, some, path_of, path_ops}
 use Rattle.algebra_survivor.specs.Paths.{from_true, path_in}
@@ -35,7 +35,7 @@ block_length zs t = length-map (places t) (λ p. get_or zs p 0) ∙ places_size 
 join_symbols : (zs : List ℕ) (a b : Tree) → block_symbols zs (Join a b) ≡ block_symbols zs a ++ block_symbols zs b
 join_symbols zs a b = map-append (λ p. get_or zs p 0) (places a) (places b)
 
-pub all_apart : (P : ℕ → Type 0) (xs ys : List ℕ) → All P (xs ++ ys) → All P xs × All P ys
+pub all_apart : (P : ℕ → Type 0) (xs ys : List ℕ) → AllByRecursion P (xs ++ ys) → AllByRecursion P xs × AllByRecursion P ys
 all_apart P [] ys e = (tt, e)
 all_apart P (x ∷ xs) ys e = let rest = all_apart P xs ys e.1 in ((e.0, rest.0), rest.1)
 
@@ -125,14 +125,14 @@ module _ (c : Code) where
         },
       )
 
-  pub block_lowest : (zs : List ℕ) (t : Tree) → size t ≤ longest → All (λ y. accepted y ≡ true) (block_symbols zs t) → (i j : ℕ) → i < states c → j < states c
+  pub block_lowest : (zs : List ℕ) (t : Tree) → size t ≤ longest → AllByRecursion (λ y. accepted y ≡ true) (block_symbols zs t) → (i j : ℕ) → i < states c → j < states c
       → Lowest (size t) (Walk i j (block_symbols zs t)) (product path_ops (states c) (chosen (trellis c) zs) t i j)
   block_lowest zs (Single y) fits good i j p q = single (get_or zs y 0) i j good.0 p _ refl
   block_lowest zs (Join a b) fits good i j p q =
       let xs = block_symbols zs a in
       let ys = block_symbols zs b in
       let is = join_symbols zs a b in
-      let parts = all_apart _ xs ys (subst (All (λ y. accepted y ≡ true)) is good) in
+      let parts = all_apart _ xs ys (subst (AllByRecursion (λ y. accepted y ≡ true)) is good) in
       let long : length xs ≡ size a = block_length zs a in
       let both : (n : ℕ) → length xs ≡ n → n ≡ size a → Lowest (n + size b) (Walk i j (xs ++ ys)) (product path_ops (states c) (chosen (trellis c) zs) (Join a b) i j) =
       λ n e f.

@@ -1,6 +1,6 @@
 -- Letter a keeps what the totals and the rows of a frame say: they take in the symbols of the block.
 use Rattle.std.proofs.Common.{◌≡◌, ℕ, suc, ◌+◌, ◌*◌, ◌^◌, ◌<◌, ◌≤◌, true, List, ◌∷◌, ◌++◌, length, Some, None, Option, sym, refl, ap, ◌∙◌, subst, ap₂, inl, inr, mul-le-mul_left, mul-suc, arith, length-append}
-use Rattle.std.specs.List.{AllByRecursion as All}
+use Rattle.std.specs.List.{AllByRecursion}
 use Rattle.std.proofs.lemmas.Bool.{cases_lt, and_from, le-leb}
 use Rattle.algebra_survivor.specs.Survivors.{Path, none, some, path_ops}
 use Rattle.code.specs.declared.description.Code.{Code}
@@ -154,7 +154,7 @@ module _ (c : Code) (ys zs : List ℕ) (totals : ℕ → Option ℕ) (rows : Lis
 
 pub frame_step : (c : Code) (ys zs : List ℕ) (t : Tree) (totals new : ℕ → Option ℕ) (rows : List Row) (words : ℕ → ℕ) (m : ℕ → ℕ → Path)
     → size t ≤ 32
-    → All (λ y. accepted y ≡ true) (block_symbols zs t)
+    → AllByRecursion (λ y. accepted y ≡ true) (block_symbols zs t)
     → ((i j : ℕ) → i < states c → j < states c → m i j ≡ product path_ops (states c) (chosen (trellis c) zs) t i j)
     → ((j : ℕ) → j < states c → Gets (states c) totals m j (new j) (words j))
     → Holds c ys totals rows

@@ -5,7 +5,7 @@ use Rattle.std.proofs.lemmas.Bool.Decides.{nat_tests}
 use Rattle.algebra.specs.Sums.{sum}
 use Rattle.algebra_survivor.specs.Survivors.{longest, ranged, Path, none, some, path, before, lesser, joined, path_ops}
 use Rattle.algebra_survivor.specs.Formulas.{Within}
-use Rattle.algebra_survivor.specs.Rows.{word_below as words-below}
+use Rattle.algebra_survivor.specs.Rows.{word_below as words_below}
 use Rattle.algebra_survivor.proofs.Formulas.{within_from, path_within}
 use Rattle.frame_paths.specs.Survivors.{Lower}
 
@@ -87,7 +87,7 @@ lowest_times n m P Q fits (some k a w p) none f g = λ b z e. g _ _ e.second
 lowest_times n m P Q fits (some k a w p) (some l b z q) f g =
     let one : Within n a w = subst (λ x. Within x a w) f.0 (within_from k a w p) in
     let two : Within m b z = subst (λ x. Within x b z) g.0 (within_from l b z q) in
-    let both : Within (n + m) (a + b) (w + 2 ^ n * z) = (fits, omega (arith, one.1, two.1), words-below n m w z one.2 two.2) in
+    let both : Within (n + m) (a + b) (w + 2 ^ n * z) = (fits, omega (arith, one.1, two.1), words_below n m w z one.2 two.2) in
     subst (λ x. Lowest (n + m) (Both n P Q) (path (x + l) (a + b) (w + 2 ^ x * z))) (sym f.0)
     (subst (λ x. Lowest (n + m) (Both n P Q) (path (n + x) (a + b) (w + 2 ^ n * z))) (sym g.0)
     (subst (Lowest (n + m) (Both n P Q)) (sym (path_within (n + m) (a + b) (w + 2 ^ n * z) both)) (

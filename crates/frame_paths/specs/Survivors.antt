@@ -7,7 +7,7 @@
 --   trellis c y            the matrix of the symbol y, in survivors
 --   SurvivorsBest          however the symbols of a block are bracketed, each entry of its matrix is the survivor of the paths
 use Rattle.std.specs.Prelude.{◌≡◌, ℕ, ◌+◌, ◌*◌, ◌%◌, ◌<◌, ◌≤◌, true, List, [], ◌∷◌, map, length, slice_index}
-use Rattle.std.specs.List.{AllByRecursion as All}
+use Rattle.std.specs.List.{AllByRecursion}
 use Rattle.algebra_survivor.specs.Survivors.{Path, none, some, path_of, path_ops}
 use Rattle.code.specs.declared.description.Code.{Code}
 use Rattle.code.specs.Codes.{states, next}
@@ -39,5 +39,5 @@ trellis c y i j = path_of (survivor_entry c y i j)
 
 abbrev pub SurvivorsBest : Type 0
 SurvivorsBest =
-    (c : Code) (zs : List ℕ) (t : Tree) → size t ≤ 32 → All (λ y. accepted y ≡ true) (block_symbols zs t) → (i j : ℕ) → i < states c → j < states c
+    (c : Code) (zs : List ℕ) (t : Tree) → size t ≤ 32 → AllByRecursion (λ y. accepted y ≡ true) (block_symbols zs t) → (i j : ℕ) → i < states c → j < states c
     → Survives c i j (block_symbols zs t) (product path_ops (states c) (chosen (trellis c) zs) t i j)

@@ -1,6 +1,6 @@
 // The lines that are printed, in columns.
 ghost use Rattle.std.specs.Prelude.{◌≡◌, ◌++◌, replicate, Ok, Err, string_bytes, OnOk};
-ghost use Rattle.frame_report.specs.Columns.{characters, closed, columns as in-columns, delivered, right};
+ghost use Rattle.frame_report.specs.Columns.{characters, closed, columns as in_columns, delivered, right};
 
 use refusal::Refusal;
 use std::alloc::{AllocError, Global};
@@ -34,7 +34,7 @@ fn push_columns(
     place: usize,
     heap: Global,
 ) -> Result<(), AllocError>
-    ensures { OnOk result (string_bytes out.new ≡ string_bytes out.old ++ in-columns symbols joins refusal place) }
+    ensures { OnOk result (string_bytes out.new ≡ string_bytes out.old ++ in_columns symbols joins refusal place) }
 {
     push_right(out, symbols, 6, heap)?;
     push_right(out, joins, 6, heap)?;

@@ -1,7 +1,7 @@
 // Fields of four columns.
 ghost use Rattle.std.specs.Prelude.{◌≡◌, ◌*◌, ◌≤◌, [], ◌∷◌, length, take, IfOk};
 ghost use Rattle.refusal.specs.Questions.{asked};
-ghost use Rattle.frame_report.specs.Fields.{field_count, number_of_field, fields as each-field, numbers as all-numbers};
+ghost use Rattle.frame_report.specs.Fields.{field_count, number_of_field, fields as each_field, numbers as all_numbers};
 
 use refusal::Refusal;
 
@@ -37,8 +37,8 @@ fn field_number(field: &[u8]) -> Option<u32>
 // Reads the numbers of a line's fields, and says how many they are.
 pub(crate) fn read_numbers(line: &[u8], numbers: &mut [u32]) -> Result<usize, Refusal>
     requires { length line.now ≤ 4 * length numbers.old }
-    ensures answer { result ≡ asked (each-field line.now ∷ []) (field_count line.now) }
-    ensures read { IfOk result (λ n. take n numbers.new ≡ all-numbers line.now) }
+    ensures answer { result ≡ asked (each_field line.now ∷ []) (field_count line.now) }
+    ensures read { IfOk result (λ n. take n numbers.new ≡ all_numbers line.now) }
 {
     let count = line.len().div_ceil(FIELD);
     for place in 0..count {
