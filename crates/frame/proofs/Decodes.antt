@@ -1,5 +1,5 @@
 -- A decode answers, and writes, what the plain frame does; and equal symbols decode alike.
-use Rattle.std.proofs.Common.{◌≡◌, ℕ, ◌+◌, ◌*◌, ◌<◌, ◌≤◌, Bool, true, false, ◌&&◌, eqb, ltb, leb, List, [], ◌∷◌, ◌++◌, length, take, drop, is_some, Some, None, Ok, Err, Option, Result, unwrap_or, sym, refl, ap, ◌∙◌, subst, arith}
+use Rattle.std.proofs.Common.{◌≡◌, ℕ, ◌<◌, Bool, true, ◌&&◌, eqb, ltb, List, [], ◌∷◌, ◌++◌, length, drop, is_some, Some, None, Ok, Err, Option, Result, unwrap_or, sym, refl, ap, ◌∙◌, subst, arith}
 use Rattle.std.proofs.lemmas.Bool.Decides.{nat_tests}
 use Rattle.refusal.specs.declared.Refusal.{Refusal}
 use Rattle.refusal.specs.declared.Refusal.TheVariants.{Memory, NoPath, Place, Rows}
@@ -7,9 +7,9 @@ use Rattle.refusal.specs.Questions.{Question, once, asked}
 use Rattle.refusal.proofs.Questions.{asked_yes, asked_no, passed_first, passed_rest, asked_first}
 use Rattle.code.specs.declared.description.Code.{Code}
 use Rattle.code.specs.Codes.{states}
-use Rattle.frame_paths.specs.Rows.{all_steps, decoded, rows_in_range, started}
+use Rattle.frame_paths.specs.Rows.{decoded}
 use Rattle.frame_paths.proofs.Decodes.{frame_decodes, frame_decodes_none}
-use Rattle.frame_rows.specs.Traces.{Decoded, decode_questions, memory_suffices, has_total, row_words, rows_in, sound, state_total, total_of}
+use Rattle.frame_rows.specs.Traces.{Decoded, decode_questions, memory_suffices, has_total, rows_in, sound, state_total, total_of}
 use Rattle.frame.specs.declared.Frame.{Frame}
 use Rattle.frame.specs.Plain.{Plain, allowed, Found, DecodesRight}
 use Rattle.frame.specs.Frames.{Traced}

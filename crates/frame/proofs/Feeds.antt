@@ -11,7 +11,7 @@ use Rattle.code.specs.Symbols.{accepted}
 use Rattle.plan.specs.Plans.{Tree, places, after}
 use Rattle.plan.specs.Asks.{height, singles}
 use Rattle.plan.proofs.Blocks.{Small}
-use Rattle.plan.proofs.Spells.{upto, flat}
+use Rattle.plan.proofs.Spells.{flat}
 use Rattle.plan.proofs.Flats.{blocks_spelled}
 use Rattle.engine.specs.Blocks.{chosen}
 use Rattle.engine.specs.Targets.{Fed, untouched, then_block}

@@ -1,13 +1,12 @@
 -- The rows in a store after letter a: those that were there, and one more.
-use Rattle.std.proofs.Common.{◌≡◌, ℕ, zero, suc, ◌+◌, ◌*◌, ◌<◌, ◌≤◌, List, [], ◌∷◌, get_or, take, sym, refl, ap, ◌∙◌, subst, mul-le-mul_right, suc-mul, add-one, arith, get_or-take}
+use Rattle.std.proofs.Common.{◌≡◌, ℕ, zero, suc, ◌+◌, ◌*◌, ◌<◌, ◌≤◌, List, ◌∷◌, get_or, take, sym, refl, ap, ◌∙◌, subst, mul-le-mul_right, suc-mul, add-one, arith, get_or-take}
 use Rattle.code.specs.declared.description.Code.{Code}
 use Rattle.code.specs.Codes.{states}
 use Rattle.algebra_survivor.specs.Survivors.{Path}
-use Rattle.frame_paths.specs.Rows.{Row}
 use Rattle.frame_paths.proofs.Holds.{SameRows}
 use Rattle.frame_metrics.specs.Metrics.{Selected}
 use Rattle.frame_metrics.specs.declared.metrics.Metrics.{Metrics}
-use Rattle.frame_rows.specs.Traces.{row_words, row_at, rows_in}
+use Rattle.frame_rows.specs.Traces.{row_words, rows_in}
 
 -- stores that agree in front agree at each place there
 at_front : (n p : ℕ) (xs ys : List ℕ) → p < n → take n xs ≡ take n ys → get_or xs p 0 ≡ get_or ys p 0

@@ -1,5 +1,5 @@
 -- Whatever takes and decodes follow on a fresh frame, its answers and bits are the plain frame's; and plans do not matter.
-use Rattle.std.proofs.Common.{◌≡◌, ℕ, ◌<◌, ◌≤◌, List, [], ◌∷◌, ◌++◌, length, take, drop, Some, None, Ok, Err, Result, sym, refl, ap, ◌∙◌, subst, arith}
+use Rattle.std.proofs.Common.{◌≡◌, ℕ, ◌<◌, List, [], ◌∷◌, ◌++◌, length, take, Some, None, Ok, Err, Result, sym, ap, ◌∙◌, subst, arith}
 use lib.Seq.{take-append_seam}
 use Rattle.refusal.specs.declared.Refusal.{Refusal}
 use Rattle.code.specs.declared.description.Code.{Code}
@@ -8,7 +8,7 @@ use Rattle.frame_paths.proofs.Decodes.{one_cheapest_lem}
 use Rattle.frame_paths.proofs.Holds.{Holds, holds_nothing}
 use Rattle.frame_rows.specs.Traces.{rows_in, state_total}
 use Rattle.frame.specs.declared.Frame.{Frame}
-use Rattle.frame.specs.Plain.{Plain, nothing, Found}
+use Rattle.frame.specs.Plain.{nothing, Found}
 use Rattle.frame.specs.Histories.{Event, History, held, Agree, Whole, Counted, Alike}
 use Rattle.frame.specs.Histories.{Take, Decode, begun, then_take, then_decode}
 use Rattle.frame.proofs.Follows.{Follows, take_follows}
