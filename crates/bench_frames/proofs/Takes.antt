@@ -1,5 +1,5 @@
 -- What a take by a fresh frame of k7 answers.
-use Rattle.std.proofs.Common.{◌≡◌, ℕ, ◌<◌, List, length, Some, None, Ok, Err, Result, refl, ap, ◌∙◌, subst, arith}
+use Rattle.std.proofs.Common.{◌≡◌, ℕ, ◌<◌, List, length, Some, None, Ok, Err, Result, ap, ◌∙◌, subst, arith}
 use Rattle.algebra_survivor.specs.declared.Survivor.{Survivor}
 use Rattle.code.specs.Codes.{k7, states}
 use Rattle.code.specs.declared.description.Code.{Code}

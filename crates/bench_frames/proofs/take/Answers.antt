@@ -1,5 +1,5 @@
 -- The code of the name k7 is k7, so the frame is fresh, and promises the rest.
-use Rattle.std.proofs.Common.{◌≡◌, Ok, Err, refl, ap, ◌∙◌}
+use Rattle.std.proofs.Common.{Ok, Err, refl, ap, ◌∙◌}
 use Rattle.std.proofs.lemmas.Result.{err_from_is_err_and}
 use Rattle.bench_frames.specs.Frames.{Fresh}
 use Rattle.bench_frames.proofs.Takes.{same_code, is_fresh, hands}
