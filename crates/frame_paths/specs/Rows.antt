@@ -6,7 +6,7 @@
 --   started c rs j     where the trace of the rows rs, the latest first, from state j arrives
 --   decoded c rs j     the input bits of that trace, the earliest first
 --   all_steps rs       how many steps the rows have together
---   rows_in_range rs        whether each row has 1 to 32 steps
+--   rows_in_range rs   whether each row has 1 to 32 steps
 use Rattle.std.specs.Prelude.{ℕ, zero, suc, ◌+◌, ◌*◌, ◌/◌, ◌%◌, ◌^◌, Bool, true, ◌&&◌, List, [], ◌∷◌, ◌++◌, nat_le}
 use Rattle.code.specs.declared.description.Code.{Code}
 use Rattle.code.specs.Codes.{half, input}

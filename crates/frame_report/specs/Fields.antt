@@ -1,7 +1,7 @@
 -- Fields of a line: its characters, four by four.
 --   digits_on v bs      the number that the digits bs make after the value v, if each is a digit
 --   blanks_on bs        the number after blanks: at least one digit, to the end
---   number_of_field bs     the number in a field: it has four columns, blanks and then at least one digit
+--   number_of_field bs  the number in a field: it has four columns, blanks and then at least one digit
 --   field line k        the field of a line at place k
 --   field_count line    how many fields a line has; a shorter last one counts
 --   number_at line k    the number in the field at place k

@@ -3,10 +3,11 @@
 --   row_words c                     the words of a row
 --   row_at c store k                row k of the store
 --   rows_in c store n               the first n rows of the store, the latest first
---   state_total totals j               the total of state j, if it has one
+--   state_total totals j            the total of state j, if it has one
 --   has_total totals j              whether it has one
 --   total_of totals j               that total, and 0 where there is none
---   memory_suffices c n steps store b    whether the store has n rows and the bit buffer of b bytes has room for the steps
+--   memory_suffices c n steps store b
+--                                   whether the store has n rows and the bit buffer of b bytes has room for the steps
 --   sound c rs steps j              whether the rows rs are those of a frame of so many steps that is traced from state j: each row has
 --                                   1 to 32 steps, together they have all, and the trace arrives at state 0
 --   decode_questions                what a decode asks, in this order: is there such a state, has the memory room, has the state a
