@@ -2,7 +2,7 @@
 --   xor a b        exclusive or
 --   bit_ops        exclusive or as the sum, and as the product, false as zero, true as one
 --   number b       0 for false, 1 for true
---   BitFormulas   the operations as numbers: sum modulo 2, product, 0 and 1
+--   BitFormulas    the operations as numbers: sum modulo 2, product, 0 and 1
 use Rattle.std.specs.Prelude.{◌≡◌, ℕ, ◌+◌, ◌*◌, ◌%◌, Bool, true, false, ◌&&◌}
 use Rattle.algebra.specs.Laws.{Ops}
 

@@ -4,7 +4,7 @@
 --   residue_of n     the remainder of n
 --   plus, times      sum and product of the numbers, reduced to a remainder
 --   count_ops        these, with the residues of 0 and 1
---   CountFormulas   the operations as numbers modulo 4,294,967,296
+--   CountFormulas    the operations as numbers modulo 4,294,967,296
 use Rattle.std.specs.Prelude.{◌≡◌, ℕ, ◌+◌, ◌*◌, ◌%◌, ◌<◌, T, nat_lt}
 use Rattle.std.proofs.Common.{mod-lt, lt→ltb, lit<}
 use Rattle.algebra.specs.Laws.{Ops}

@@ -4,7 +4,7 @@
 --                        to j, modulo 4,294,967,296
 --   occurrences us xs    how often the list us stands in xs
 --   Listed c             paths_to c ys j has each admitted path over ys to j once, and no other list
---   PathsCounted        both, for every code
+--   PathsCounted         both, for every code
 use Rattle.std.specs.Prelude.{◌≡◌, ℕ, ◌<◌, List, length, filter}
 use Rattle.std.specs.List.{AllByRecursion}
 use Rattle.std.specs.Str.{bytes_eq}
