@@ -12,6 +12,13 @@ module _ {E V : Type 0} (z : V) (f : E → V) where
   at_read (y ∷ xs) zero x l e = ap f (sym e)
   at_read (y ∷ xs) (suc i) x l e = at_read xs i x (omega arith) e
 
+  -- the same by a default that means z, within the list or past its end
+  pub at_get : (xs : List E) (i : ℕ) (d : E) → f d ≡ z → f (get_or xs i d) ≡ at z f xs i
+  unfolding at
+  at_get [] i d e = e
+  at_get (y ∷ xs) zero d e = refl
+  at_get (y ∷ xs) (suc i) d e = at_get xs i d e
+
   pub at_set_same : (xs : List E) (i : ℕ) (x : E) → i < length xs → at z f (set xs i x) i ≡ f x
   unfolding at
   at_set_same [] i x l = absurd (omega arith)

@@ -32,7 +32,7 @@ pub trait Algebra: Copy {
     fn product(self, other: Self) -> Self
         ensures { mean result ≡ ops.mul (mean self) (mean other) };
 
-    // Equality by meaning.
+    // Equality by meaning, and no operator: on rows that mean the same in two forms, `==` would compare the forms.
     fn same(self, other: Self) -> bool
         ensures equal { result ≡ true → mean self ≡ mean other }
         ensures differ { result ≡ false → mean self ≢ mean other };
@@ -45,13 +45,19 @@ pub trait Algebra: Copy {
     // Whether a normal row means zero; on other rows any answer will do.
     fn is_zero(self) -> bool
         ensures zero { normal self ≡ true → result ≡ true → mean self ≡ ops.zero }
-        ensures other { normal self ≡ true → result ≡ false → mean self ≢ ops.zero };
+        ensures other { normal self ≡ true → result ≡ false → mean self ≢ ops.zero }
+    {
+        self.same(Self::zero())
+    }
 
     // self ⊕ a ⊗ b of three normal rows; on other rows any answer will do.
     fn accumulate(self, a: Self, b: Self) -> Self
         ensures value { normal self ≡ true → normal a ≡ true → normal b ≡ true →
             mean result ≡ ops.add (mean self) (ops.mul (mean a) (mean b)) }
-        ensures normal { normal self ≡ true → normal a ≡ true → normal b ≡ true → normal result ≡ true };
+        ensures normal { normal self ≡ true → normal a ≡ true → normal b ≡ true → normal result ≡ true }
+    {
+        self.sum(a.product(b)).normalized()
+    }
 
     ghost lawful: { Laws ops };
 }

@@ -1,8 +1,8 @@
--- Bits meet the eight laws, and their operations are those of numbers modulo 2.
+-- Bits meet the eight laws.
 use Rattle.std.specs.Prelude.{refl}
 use Rattle.std.proofs.Common.{arith}
 use Rattle.algebra.specs.Laws.{Laws}
-use Rattle.algebra_scalars.specs.Bits.{bit_ops, BitFormulas}
+use Rattle.algebra_scalars.specs.Bits.{bit_ops}
 
 pub bit_laws : Laws bit_ops
 bit_laws = record {
@@ -17,6 +17,3 @@ bit_laws = record {
   zero-mul = λ a. refl;
   mul-zero = λ a. grind arith;
 }
-
-pub bit_formulas_lem : BitFormulas
-bit_formulas_lem = record { zero = refl; one = refl; sum = λ a b. grind arith; product = λ a b. grind arith; distinct = λ a b e. grind arith }

@@ -5,7 +5,7 @@ ghost use Rattle.algebra_scalars.specs.BitsLemmas.{bit_laws};
 
 use algebra::Algebra;
 
-#[derive(Clone, Copy)]
+#[derive(Clone, Copy, PartialEq, Eq, Debug)]
 pub struct Bit(pub bool);
 
 impl Algebra for Bit {
@@ -36,19 +36,11 @@ impl Algebra for Bit {
     }
 
     fn same(self, other: Bit) -> bool {
-        self.0 == other.0
+        self == other
     }
 
     fn normalized(self) -> Bit {
         self
-    }
-
-    fn is_zero(self) -> bool {
-        !self.0
-    }
-
-    fn accumulate(self, a: Bit, b: Bit) -> Bit {
-        self.sum(a.product(b))
     }
 }
 

@@ -5,7 +5,7 @@ ghost use Rattle.algebra_scalars.specs.CountsLemmas.{count_laws};
 
 use algebra::Algebra;
 
-#[derive(Clone, Copy)]
+#[derive(Clone, Copy, PartialEq, Eq, Debug)]
 pub struct Count(pub u32);
 
 impl Algebra for Count {
@@ -36,19 +36,11 @@ impl Algebra for Count {
     }
 
     fn same(self, other: Count) -> bool {
-        self.0 == other.0
+        self == other
     }
 
     fn normalized(self) -> Count {
         self
-    }
-
-    fn is_zero(self) -> bool {
-        self.0 == 0
-    }
-
-    fn accumulate(self, a: Count, b: Count) -> Count {
-        self.sum(a.product(b))
     }
 }
 

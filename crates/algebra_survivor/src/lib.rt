@@ -9,13 +9,14 @@ ghost use Rattle.algebra_survivor.specs.Paths.{path_laws};
 use algebra::Algebra;
 
 // The greatest length of a path: its word has a bit for each step.
-const LONGEST: u16 = 32;
+pub const LONGEST: u16 = 32;
 
 // The highest cost of one step.
 const STEP_COST: u16 = 14;
 
 // A path from one state to another: `length` steps, their `cost`, and the `word` of the bits dropped
-// on the way, the earliest lowest. A plain row, laid out as in C: one out of range means none.
+// on the way, the earliest lowest. A plain row, laid out as in C: one out of range means none, so none is
+// no `Option`, being in range no invariant, and `==` is not derived, as it would tell rows of none apart.
 #[derive(Clone, Copy, Debug)]
 #[repr(C)]
 pub struct Survivor {
@@ -40,7 +41,8 @@ impl Survivor {
             && (self.cost <= STEP_COST * self.length && (self.word as u64) < 1 << self.length)
     }
 
-    // The three numbers as one: keys are in the order of the paths, and lengths and costs add in one step.
+    // The three numbers as one: keys are in the order of the paths, and lengths and costs add in one step. A derived
+    // order would begin with the word, the first field in C; a `From` would make this inner number public.
     fn key(self) -> u64
         ensures { result ≡ key_of self }
     {
@@ -134,6 +136,7 @@ impl Algebra for Survivor {
         }
     }
 
+    // This and the next are the inner loop, where the trait's bodies would test each row's range again.
     fn is_zero(self) -> bool {
         self.length > LONGEST
     }

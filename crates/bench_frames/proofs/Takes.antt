@@ -13,13 +13,9 @@ use Rattle.frame_rows.specs.Traces.{state_total}
 use Rattle.plan.specs.Asks.{blocks, joins}
 use Rattle.refusal.specs.Questions.{asked}
 use Rattle.refusal.specs.declared.Refusal.{Refusal}
-use Rattle.bench_frames.specs.Frames.{Begun, Fresh, Handed, Then, framing, handed, status_of}
+use Rattle.bench_frames.specs.Frames.{Begun, Fresh, Handed, Then, framing, handed}
 
--- the code that was found is k7
-pub same_code : (k : Code) → ◌≡◌ {A = Result Code Refusal} (Ok k) (Ok k7) → k ≡ k7
-same_code k e = cc
-
--- so a new frame of it is fresh
+-- a new frame of k7 is fresh
 pub is_fresh : (k : Code) → k ≡ k7 → (f : Frame) → f.code ≡ k → f.steps ≡ 0 → f.metrics.rows ≡ 0 → state_total f.metrics.totals 0 ≡ Some 0
     → ((j : ℕ) → 0 < j → state_total f.metrics.totals j ≡ None) → Whole k f → Fresh f
 is_fresh k named f code steps rows start others whole =
@@ -46,21 +42,12 @@ module _ (ys plan store : List ℕ) (work row : List Survivor) (store' : List �
   unfolding begins
   hands o t r e = (begins o t, e ∙ ap (λ o. handed o last) (asks_fresh o t))
 
--- a frame that is handed out tells C as much as the answer
-pub told : (o : Result Frame Refusal) (t : Result (ℕ × ℕ) Refusal) (f : Frame) → o ≡ handed t f → status_of o ≡ status_of t
-told o (Ok x) f e = ap status_of e
-told o (Err r) f e = ap status_of e
-
 abbrev side : Result Frame Refusal → ℕ
 side (Ok f) = 0
 side (Err e) = 1
 
--- after a take that was refused no decode follows, and after another the decode of the frame that was handed out
+-- after a take that was accepted the decode of the frame follows that was handed out
 module _ (last : Frame) (j : ℕ) (store bits : List ℕ) (o : Result ℕ Refusal) (bits' : List ℕ) where
-  pub then_nothing : (t : Result (ℕ × ℕ) Refusal) (e : Refusal) → Err e ≡ handed t last → o ≡ Err e → bits' ≡ bits → Then last j store bits t o bits'
-  then_nothing (Ok x) e h is same = let other : 1 ≡ 0 = ap side h in absurd (omega (arith, other))
-  then_nothing (Err e') e h is same = (is ∙ cc, same)
-
   pub then_traced : (t : Result (ℕ × ℕ) Refusal) (f : Frame) → Ok f ≡ handed t last → Traced f j store bits o bits' → Then last j store bits t o bits'
   then_traced (Ok x) f h t =
       let one : f ≡ last = cc in

@@ -1,5 +1,4 @@
 -- What the benchmark's functions answer and do with whole frames.
---   status_of o                      what C is told of an answer: 0, or the number of a refusal
 --   Fresh f                          f is a fresh frame of k7: whatever takes and decodes follow, all answers and bits are the plain frame's
 --   framing ys plan n k s            the answer to a take of the symbols ys under a plan by a fresh frame, with a work area of n elements, a row
 --                                    of k and a store of s words
@@ -24,13 +23,9 @@ use Rattle.frame.specs.declared.Frame.{Frame}
 use Rattle.frame_metrics.specs.Totals.{has_room}
 use Rattle.frame_rows.specs.Traces.{decode_questions, state_total}
 use Rattle.plan.specs.Asks.{blocks, joins}
-use Rattle.refusal.specs.Numbers.{number}
+use Rattle.bench_status.specs.Status.{status_of}
 use Rattle.refusal.specs.Questions.{asked}
 use Rattle.refusal.specs.declared.Refusal.{Refusal}
-
-abbrev pub status_of : {A : Type 0} → Result A Refusal → ℕ
-status_of (Ok a) = 0
-status_of (Err e) = number e
 
 pub record Fresh (f : Frame) : Type 0 where
   pub code : f.code ≡ k7

@@ -1,24 +1,17 @@
-// Whole frames of k7 for the benchmark, as functions that C can call.
+// Whole frames of k7 for the benchmark, as functions that C can call. C lends each buffer as a parameter of its own, so
+// none are put together in a struct, here and in what is called.
 #![tactic(auto)]
 
 ghost use Rattle.std.specs.Prelude.{◌≡◌, length};
 ghost use Rattle.code.specs.Codes.{k7};
 ghost use Rattle.frame_rows.specs.Traces.{Decoded};
-ghost use Rattle.bench_frames.specs.Frames.{Begun, Ended, Handed, Told, framing, status_of, tracing};
+ghost use Rattle.bench_frames.specs.Frames.{Begun, Ended, Handed, Told, framing, tracing};
+ghost use Rattle.bench_status.specs.Status.{status_of};
 
 use algebra_survivor::Survivor;
+use bench_status::status;
 use frame::Frame;
 use refusal::Refusal;
-
-// What C is told: 0 for an answer, and the number of a refusal.
-fn status<T: Drop>(answer: Result<T, Refusal>) -> u32
-    ensures { result ≡ status_of answer }
-{
-    match answer {
-        Ok(_) => 0,
-        Err(refusal) => refusal.number(),
-    }
-}
 
 // Takes symbols with a fresh frame.
 fn take(

@@ -16,10 +16,6 @@ use Rattle.refusal.specs.declared.Refusal.{Refusal}
 use Rattle.refusal.specs.declared.Refusal.TheVariants.{Memory}
 use Rattle.bench_kernels.specs.Kernels.{Took, survivors, taking, trellis}
 
--- the code that was found is k7
-pub same_code : (k : Code) → ◌≡◌ {A = Result Code Refusal} (Ok k) (Ok k7) → k ≡ k7
-same_code k e = cc
-
 -- a run that was made over a state of 64 elements is fresh
 pub begun : (k : Code) → k ≡ k7 → (state : List Survivor) (over run : Run Survivor) (x : Unit) → over.state.now ≡ state → Made survivors (states k) over (Ok x) run
     → (64 ≤ length state) × (run.state.now ≡ state) × Follows survivors (fresh survivors 64 state) [] run

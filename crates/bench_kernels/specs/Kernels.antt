@@ -1,5 +1,4 @@
 -- What the benchmark's functions answer and do.
---   status_of o                  what C is told of an answer: 0, or the number of a refusal
 --   survivors                    the algebra of survivors
 --   trellis                      the survivor trellis of k7, as a rule of 64 places
 --   multiplying d n k            the answer to a product of two matrices of size d in a work area of n elements, with a row of k
@@ -22,14 +21,9 @@ use Rattle.plan.specs.Asks.{joins}
 use Rattle.plan.specs.Plans.{after}
 use Rattle.recursion.specs.Steps.{Rule, rule, steps}
 use Rattle.recursion_trellis.specs.contracts.survivor.SurvivorTrellisRecursion.TheImpl.{ghosts as trellis_of}
-use Rattle.refusal.specs.Numbers.{number}
 use Rattle.refusal.specs.Questions.{asked, once}
 use Rattle.refusal.specs.declared.Refusal.{Refusal}
 use Rattle.refusal.specs.declared.Refusal.TheVariants.{Memory}
-
-abbrev pub status_of : {A : Type 0} → Result A Refusal → ℕ
-status_of (Ok a) = 0
-status_of (Err e) = number e
 
 abbrev pub survivors : Algebra Survivor
 survivors = survivors_of

@@ -1,24 +1,17 @@
-// The engine's kernels for the benchmark, as functions that C can call.
+// The engine's kernels for the benchmark, as functions that C can call. C lends each buffer as a parameter of its own,
+// so none are put together in a struct, here and in what is called.
 #![tactic(auto)]
 
 ghost use Rattle.std.specs.Prelude.{◌≡◌, length};
 ghost use Rattle.engine.specs.Matrices.{Multiplied};
-ghost use Rattle.bench_kernels.specs.Kernels.{Took, multiplying, status_of, survivors, taking};
+ghost use Rattle.bench_kernels.specs.Kernels.{Took, multiplying, survivors, taking};
+ghost use Rattle.bench_status.specs.Status.{status_of};
 
 use algebra_survivor::Survivor;
+use bench_status::status;
 use engine::{Run, multiply};
 use recursion_trellis::SurvivorTrellis;
 use refusal::Refusal;
-
-// What C is told: 0 for an answer, and the number of a refusal.
-fn status<T: Drop>(answer: Result<T, Refusal>) -> u32
-    ensures { result ≡ status_of answer }
-{
-    match answer {
-        Ok(_) => 0,
-        Err(refusal) => refusal.number(),
-    }
-}
 
 // The product of two matrices of d × d survivors, as `engine::multiply` makes it.
 #[unsafe(no_mangle)]

@@ -46,6 +46,7 @@ impl Code {
 }
 
 // The parity of the ones common to the register and a generator.
+#[tactic(auto, unfolding(crate::specs::Codes::code_bit))]
 fn common_parity(register: u32, generator: u32) -> u32
     ensures { result ≡ code_bit register generator }
 {

@@ -13,7 +13,7 @@ mod symbol;
 pub use description::Code;
 pub use symbol::{BASE, ERASED, SURE, accepts};
 
-// The code of this name, k3 or k7.
+// The code of this name, k3 or k7. It is no `FromStr`, since `text.parse()` would not say that the text is a name.
 pub fn by_name(name: &str) -> Result<Code, Refusal>
     ensures { result ≡ named name.now }
 {

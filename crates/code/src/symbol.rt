@@ -43,7 +43,8 @@ impl Code {
     }
 }
 
-// What a value costs against a code bit.
+// What a value costs against a code bit. A value is a digit of a symbol, and a code bit is sent as a number: so both
+// are matched as numbers here, with no type of their own between.
 fn value_cost(value: u32, bit: u32) -> u32
     ensures { result ≡ soft_cost value bit }
 {

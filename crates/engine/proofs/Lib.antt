@@ -2,10 +2,10 @@ pub mod Places
 pub mod Adds
 pub mod Writes
 pub mod Joins
-pub mod Loads
 pub mod Steps
 pub mod Turns
 pub mod LetterTurns
 pub mod Readies
 pub mod Answered
+pub mod Moves
 pub mod Serves

@@ -1,19 +1,20 @@
 -- Whatever calls led to a run, its answers and what it holds stay those of the plain run.
 use Rattle.std.proofs.Common.{◌≡◌, ℕ, ◌+◌, ◌*◌, ◌<◌, ◌≤◌, Bool, true, false, ◌&&◌, eqb, ltb, leb, List, [], ◌∷◌, ◌++◌, length, drop, Ok, Err, Result, sym, refl, ap, ◌∙◌, subst, arith}
+use Rattle.std.proofs.Math.Bool.{and_assoc}
 use Rattle.std.proofs.lemmas.Bool.Decides.{nat_tests}
 use Rattle.algebra.specs.Laws.{Ops}
 use Rattle.algebra.specs.Sums.{at}
 use Rattle.algebra.specs.declared.Algebra.{Ghosts as Algebra}
-use Rattle.plan.specs.Asks.{asks, joins, most, shape}
+use Rattle.plan.specs.Asks.{asks, joins, most}
 use Rattle.plan.specs.Plans.{after as letters_after}
-use Rattle.plan.specs.declared.Shape.{Shape}
 use Rattle.recursion.specs.Steps.{Rule, steps}
 use Rattle.recursion.proofs.Steps.{steps_cong}
 use Rattle.refusal.specs.declared.Refusal.{Refusal}
-use Rattle.refusal.specs.declared.Refusal.TheVariants.{Limit, Memory, Place}
-use Rattle.refusal.specs.Questions.{Question, once, asked}
-use Rattle.refusal.proofs.Questions.{asked_yes, asked_no, passed_first, asked_first, asked_rest}
+use Rattle.refusal.specs.declared.Refusal.TheVariants.{Memory, Place}
+use Rattle.refusal.specs.Questions.{once, asked}
+use Rattle.refusal.proofs.Questions.{asked_yes, asked_no}
 use Rattle.engine.specs.Blocks.{Stands, chosen}
+use Rattle.engine.specs.Deliveries.{delivery}
 use Rattle.engine.specs.Plain.{Plain, Call, limit, accepted, within, takes, took, found, settled, next, after}
 use Rattle.engine.specs.Plain.{Take, Read}
 use Rattle.engine.specs.Runs.{Whole, fresh, held, Holds, Stepped, Taken, TakeServes, ReadServes, Heard, asking, looked}
@@ -101,53 +102,17 @@ module _ {E : Type 0} (a : Algebra E) where
       let p = after a.ops start calls in
       (subst (Heard a o) (looked_found p run i (ltb i p.size) refl h) e, holds_as p _ run (after_push a.ops start calls (Read i)) h)
 
+  -- the questions of a take are those of a delivery to the run's state
+  pub delivery_asking : (run : Run E) (r : Rule a.Value) (ys plan : List ℕ) (n k : ℕ)
+      → delivery r ys plan limit run.taken (eqb r.size run.size && leb r.size (length run.state.now)) n k ≡ asking a run r ys plan n k
+  delivery_asking run r ys plan n k =
+      ap (λ b. asks plan (length ys) ++ (accepted r ys ∷ (within run.taken ys ∷ (once b Memory ∷ []))))
+      (and_assoc (eqb r.size run.size) (leb r.size (length run.state.now)) (leb (most plan * (r.size * r.size)) n && leb r.size k))
+
   -- all that a refused take owes
-  pub refuses : (r : Rule a.Value) (ys plan : List ℕ) (n k : ℕ) (was : Run E) (work row : List E) (o : Result (ℕ × ℕ) Refusal) (e : Refusal)
-      → o ≡ Err e → asked {A = ℕ × ℕ} (asking a was r ys plan n k) (length ys, joins plan) ≡ Err e
-      → (o ≡ asked (asking a was r ys plan n k) (length ys, joins plan)) × Taken a r ys plan was work row o was work row × TakeServes a r ys plan n k was o was
-  refuses r ys plan n k was work row o e is says =
-      let t : Taken a r ys plan was work row o was work row = subst (λ z. Taken a r ys plan was work row z was work row) (sym is) (refl, refl, refl) in
-      (is ∙ sym says, t, take_serves r ys plan n k was was work row work row o (is ∙ sym says) t)
-
-  pub says_plan : (r : Rule a.Value) (ys plan : List ℕ) (n k : ℕ) (was : Run E) (e : Refusal) → Err e ≡ asked (asks plan (length ys)) (shape plan)
-      → asked {A = ℕ × ℕ} (asking a was r ys plan n k) (length ys, joins plan) ≡ Err e
-  says_plan r ys plan n k was e refused = asked_first (accepted r ys ∷ (within was.taken ys ∷ (once _ Memory ∷ []))) (shape plan) (shape plan) (length ys, joins plan) (asks plan (length ys)) e (sym refused)
-
-  module _ (r : Rule a.Value) (ys plan : List ℕ) (n k : ℕ) (was : Run E) (s : Shape) (plan-passed : Ok s ≡ asked (asks plan (length ys)) (shape plan)) where
-    abbrev room : Question
-    room = once (eqb r.size was.size && (leb r.size (length was.state.now) && (leb (most plan * (r.size * r.size)) n && leb r.size k))) Memory
-
-    abbrev rest : List Question
-    rest = accepted r ys ∷ (within was.taken ys ∷ (room ∷ []))
-
-    abbrev answer : Result (ℕ × ℕ) Refusal
-    answer = asked (asking a was r ys plan n k) (length ys, joins plan)
-
-    past_plan : answer ≡ asked rest (length ys, joins plan)
-    past_plan = asked_rest rest (shape plan) s (length ys, joins plan) (asks plan (length ys)) (sym plan-passed)
-
-    pub says_symbol : {B : Type 0} (x : B) (e : Refusal) → Err e ≡ asked (accepted r ys ∷ []) x → answer ≡ Err e
-    says_symbol x e no_symbol = past_plan ∙ asked_first (within was.taken ys ∷ (room ∷ [])) x x (length ys, joins plan) (accepted r ys ∷ []) e (sym no_symbol)
-
-    module _ {B : Type 0} (x x' : B) (symbols-passed : Ok x ≡ asked (accepted r ys ∷ []) x') where
-      past_symbols : answer ≡ asked (within was.taken ys ∷ (room ∷ [])) (length ys, joins plan)
-      past_symbols = past_plan ∙ asked_yes (accepted r ys) (within was.taken ys ∷ (room ∷ [])) (length ys, joins plan) (passed_first (accepted r ys) [] x' x (sym symbols-passed))
-
-      pub says_limit : leb (was.taken + length ys) limit ≡ false → answer ≡ Err Limit
-      says_limit t = past_symbols ∙ asked_no (within was.taken ys) (room ∷ []) _ 0 (omega arith) t (λ k h. absurd (omega arith))
-
-      past_limit : leb (was.taken + length ys) limit ≡ true → answer ≡ asked (room ∷ []) (length ys, joins plan)
-      past_limit t = past_symbols ∙ asked_yes (within was.taken ys) (room ∷ []) _ (λ p h. t)
-
-      -- the test of the memory, as it is made with the size and the shape that were found
-      pub room_tested : (d m : ℕ) (b : Bool) → d ≡ r.size → m ≡ most plan → b ≡ (eqb d was.size && (leb d (length was.state.now) && (leb (m * (d * d)) n && leb d k))) → room.test 0 ≡ b
-      room_tested d m b e f t = cc
-
-      pub says_memory : leb (was.taken + length ys) limit ≡ true → room.test 0 ≡ false → answer ≡ Err Memory
-      says_memory t u = past_limit t ∙ asked_no room [] _ 0 (omega arith) u (λ k h. absurd (omega arith))
-
-      pub says_taken : leb (was.taken + length ys) limit ≡ true → room.test 0 ≡ true → answer ≡ Ok (length ys, joins plan)
-      says_taken t u = past_limit t ∙ asked_yes room [] _ (λ p h. u)
+  pub refuses : (r : Rule a.Value) (ys plan : List ℕ) (was is : Run E) (work row work' row' : List E) (o : Result (ℕ × ℕ) Refusal) (e : Refusal)
+      → o ≡ Err e → is ≡ was → work' ≡ work → row' ≡ row → Taken a r ys plan was work row o is work' row'
+  refuses r ys plan was is work row work' row' o e refused same same-work same-row = subst (λ z. Taken a r ys plan was work row z is work' row') (sym refused) (same, same-work, same-row)
 
   -- a history leads the run where it leads the plain run
   pub whole : (start : Plain a.Value) (first : Run E) → Holds a start first → Whole a start first

@@ -1,20 +1,14 @@
--- One letter of a plan, in the work area and in the state.
-use Rattle.std.proofs.Common.{◌≡◌, ℕ, suc, ◌+◌, ◌-◌, ◌*◌, ◌<◌, ◌≤◌, true, List, [], ◌∷◌, ◌++◌, length, take, sym, refl, ap, ◌∙◌, subst, inl, inr, mul-le-mul_right, suc-mul, arith}
+-- One letter of a plan, in the work area.
+use Rattle.std.proofs.Common.{◌≡◌, ℕ, suc, ◌+◌, ◌-◌, ◌*◌, ◌<◌, ◌≤◌, true, List, [], ◌∷◌, length, take, sym, ap, ◌∙◌, subst, inl, inr, mul-le-mul_right, suc-mul, arith}
 use Rattle.std.proofs.lemmas.Bool.{cases_lt}
-use Rattle.algebra.specs.Laws.{Laws}
 use Rattle.algebra.specs.Sums.{at}
 use Rattle.algebra.specs.declared.Algebra.{Ghosts as Algebra}
 use Rattle.algebra.proofs.Sums.{sum_cong, mul_both}
 use Rattle.algebra.proofs.Places.{at_same_front, at_take}
-use Rattle.plan.specs.Plans.{Tree, Progress, places, joined, applied, letter}
-use Rattle.plan.specs.Plans.{Single}
-use Rattle.plan.proofs.Heights.{letter_s, letter_j, letter_a}
-use Rattle.recursion.specs.Steps.{stepped, steps}
-use Rattle.recursion.proofs.Steps.{steps_append}
-use Rattle.engine.specs.Blocks.{Doing, Stands}
-use Rattle.engine.specs.Matrices.{cell, Joined, Normal, NormalFrom}
+use Rattle.plan.specs.Plans.{Tree, joined}
+use Rattle.engine.specs.Blocks.{Stands}
+use Rattle.engine.specs.Matrices.{Joined, Normal, NormalFrom}
 use Rattle.engine.proofs.Places.{row_in, take_less}
-use Rattle.engine.proofs.Steps.{block_steps}
 
 pub not_empty : (b : Tree) (bs : List Tree) → b ∷ bs ≡ [] → ⊥
 not_empty b bs e = omega (arith, ap length e)
@@ -68,20 +62,6 @@ module _ {E : Type 0} (a : Algebra E) (d : ℕ) (m : ℕ → ℕ → ℕ → a.V
     | inr ge ↦ let is : n + (p - n) ≡ p = omega arith in ap (at true a.normal next) (sym is) ∙ above (p - n) (omega arith)
   ]
 
-  -- the state after letter a
-  after_a : Laws a.ops → (stack : List Tree) (done : List ℕ) (start : ℕ → a.Value) (n : ℕ) (state work new : List E) → n ≡ d * d → length stack ≡ 1 → Stands a d m work stack
-      → ((j : ℕ) → j < d → value state j ≡ steps a.ops d m done start j)
-      → ((j : ℕ) → j < d → value new j ≡ stepped a.ops d (value state) (λ l i. value (take n work) (l * d + i)) j)
-      → (j : ℕ) → j < d → value new j ≡ steps a.ops d m (applied done stack) start j
-  after_a laws [] done start n state work new en one s holds made j h = absurd (omega arith)
-  after_a laws (b ∷ (c ∷ rest)) done start n state work new en one s holds made j h = absurd (omega arith)
-  after_a laws (b ∷ []) done start n state work new en one s holds made j h =
-      made j h
-      ∙ sum_cong a.ops d _ _ (λ l lt. mul_both a.ops _ _ _ _ (holds l lt)
-      (at_take a.ops.zero a.mean n work (l * d + j) (omega (arith, row_in l d lt)) ∙ ap (value work) (omega arith) ∙ s.0 l j lt h))
-      ∙ block_steps a.ops d m laws b (steps a.ops d m done start) j h
-      ∙ sym (steps_append a.ops d m done (places b) start j)
-
   -- the stack after letter j
   pub joined_stands : (stack : List Tree) (n : ℕ) (work new : List E) → n ≡ length stack → 2 ≤ n → Stands a d m work stack → Joined a d ((n - 2) * (d * d)) work new
       → (n - 1 ≡ length (joined stack)) × Stands a d m new (joined stack)
@@ -97,61 +77,3 @@ module _ {E : Type 0} (a : Algebra E) (d : ℕ) (m : ℕ → ℕ → ℕ → a.V
           stands_still rest work new here.before s.1.1,
         ),
       )
-
-  module _ (start : ℕ → a.Value) (w : Progress) (top next : ℕ) (state work : List E) (now : Doing a d m start w top next state work) where
-    pushed : (new : List E) → take (top * (d * d)) new ≡ take (top * (d * d)) work → NormalFrom a.normal new (top * (d * d)) (d * d)
-        → ((i j : ℕ) → i < d → j < d → cell a.ops.zero a.mean new d (top * (d * d)) i j ≡ m next i j)
-        → Doing a d m start (record { stack = Single w.next ∷ w.stack; next = w.next + 1; done = w.done; last = w.last; blocks = w.blocks }) (top + 1) (next + 1) state new
-    pushed new before fine cells = record {
-      topped = omega (arith, now.topped);
-      nexted = ap (λ n. n + 1) now.nexted;
-      stands = (
-        rw now.topped at (subst (λ n. (i j : ℕ) → i < d → j < d → cell a.ops.zero a.mean new d (top * (d * d)) i j ≡ m n i j) now.nexted cells),
-        stands_still w.stack work new (rw now.topped at before) now.stands,
-      );
-      normal = subst (Normal a.normal new) (sym (more_rows a d top)) (normal_more (top * (d * d)) (d * d) work new before now.normal fine);
-      left = λ e. absurd (not_empty _ _ e);
-      holds = now.holds;
-    }
-
-    spent : Laws a.ops → (n : ℕ) (new : List E) → n ≡ d * d → top ≡ 1
-        → ((j : ℕ) → j < d → value new j ≡ stepped a.ops d (value state) (λ l i. value (take n work) (l * d + i)) j)
-        → Doing a d m start (record { stack = []; next = w.next; done = applied w.done w.stack; last = w.stack; blocks = w.stack ++ w.blocks }) 0 next new work
-    spent laws n new en one made = record {
-      topped = refl;
-      nexted = now.nexted;
-      stands = tt;
-      normal = λ p h. absurd (omega arith);
-      left = λ _. now.stands;
-      holds = after_a laws w.stack w.done start n state work new en (sym now.topped ∙ one) now.stands now.holds made;
-    }
-
-    combined : (new : List E) → 2 ≤ top → Joined a d ((top - 2) * (d * d)) work new
-        → Doing a d m start (record { stack = joined w.stack; next = w.next; done = w.done; last = w.last; blocks = w.blocks }) (top - 1) next state new
-    combined new two done =
-        let s = joined_stands w.stack top work new now.topped two now.stands done in
-        let below : (top - 2) * (d * d) ≤ top * (d * d) = mul-le-mul_right {m = top - 2} {n = top} (d * d) (omega arith) in
-        let is : top - 1 ≡ top - 2 + 1 = omega arith in
-        let high : (top - 1) * (d * d) ≡ (top - 2) * (d * d) + d * d = ap (λ n. n * (d * d)) is ∙ more_rows a d (top - 2) in
-        record {
-          topped = s.0;
-          nexted = now.nexted;
-          stands = s.1;
-          normal = subst (Normal a.normal new) (sym high) (normal_more ((top - 2) * (d * d)) (d * d) work new done.before (λ p h. now.normal p (omega arith)) done.normal);
-          left = λ e. absurd (tall (joined w.stack) (omega (arith, s.0)) e);
-          holds = now.holds;
-        }
-
-    module _ (c : ℕ) where
-      pub does_s : (new : List E) → c ≡ 115 → take (top * (d * d)) new ≡ take (top * (d * d)) work → NormalFrom a.normal new (top * (d * d)) (d * d)
-          → ((i j : ℕ) → i < d → j < d → cell a.ops.zero a.mean new d (top * (d * d)) i j ≡ m next i j)
-          → Doing a d m start (letter w c) (top + 1) (next + 1) state new
-      does_s new e before fine cells = subst (λ v. Doing a d m start v (top + 1) (next + 1) state new) (sym (letter_s w c e)) (pushed new before fine cells)
-
-      pub does_j : (new : List E) → c ≡ 106 → 2 ≤ top → Joined a d ((top - 2) * (d * d)) work new → Doing a d m start (letter w c) (top - 1) next state new
-      does_j new e two done = subst (λ v. Doing a d m start v (top - 1) next state new) (sym (letter_j w c e)) (combined new two done)
-
-      pub does_a : Laws a.ops → (n : ℕ) (new : List E) → n ≡ d * d → (c ≡ 115 → ⊥) → (c ≡ 106 → ⊥) → top ≡ 1
-          → ((j : ℕ) → j < d → value new j ≡ stepped a.ops d (value state) (λ l i. value (take n work) (l * d + i)) j)
-          → Doing a d m start (letter w c) 0 next new work
-      does_a laws n new en s j one made = subst (λ v. Doing a d m start v 0 next new work) (sym (letter_a w c s j)) (spent laws n new en one made)

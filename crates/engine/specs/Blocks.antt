@@ -1,17 +1,14 @@
--- Blocks: what the letters of a plan build in the work area, and what they do to the state.
+-- Blocks: what the letters of a plan build in the work area.
 --   chosen e ys p            the matrix of the symbol at place p, where e(y, i, j) are the entries
 --   product o d m t          the matrix of a tree, where m(p) is the matrix of the symbol at place p
 --   Stands a d m work stack   the stack stands in the work area, each matrix from a multiple of d × d on, the bottom first
---   Doing                    state and work area hold what the letters have built, from a start
 --   Ready                    a letter finds what it needs: s a symbol and room for its matrix, j two matrices, a exactly one
 use Rattle.std.specs.Prelude.{◌≡◌, ℕ, ◌+◌, ◌*◌, ◌<◌, ◌≤◌, List, [], ◌∷◌, length, ◌≢◌, slice_index}
 use Rattle.algebra.specs.Laws.{Ops}
-use Rattle.algebra.specs.Sums.{at}
 use Rattle.algebra.specs.declared.Algebra.{Ghosts as Algebra}
-use Rattle.plan.specs.Plans.{Tree, Progress}
+use Rattle.plan.specs.Plans.{Tree}
 use Rattle.plan.specs.Plans.{Single, Join}
-use Rattle.recursion.specs.Steps.{steps}
-use Rattle.engine.specs.Matrices.{cell, times, Normal}
+use Rattle.engine.specs.Matrices.{cell, times}
 
 abbrev pub chosen : {V : Type 0} → (ℕ → ℕ → ℕ → V) → List ℕ → ℕ → ℕ → ℕ → V
 chosen e ys p = e (slice_index ys p)
@@ -25,14 +22,6 @@ Stands a d m work [] = Unit {0}
 Stands a d m work (t ∷ rest) =
     ((i j : ℕ) → i < d → j < d → cell a.ops.zero a.mean work d (length rest * (d * d)) i j ≡ product a.ops d m t i j)
     × Stands a d m work rest
-
-pub record Doing {E : Type 0} (a : Algebra E) (d : ℕ) (m : ℕ → ℕ → ℕ → a.Value) (start : ℕ → a.Value) (w : Progress) (top next : ℕ) (state work : List E) : Type 0 where
-  pub topped : top ≡ length w.stack
-  pub nexted : next ≡ w.next
-  pub stands : Stands a d m work w.stack
-  pub normal : Normal a.normal work (top * (d * d))
-  pub left : w.stack ≡ [] → Stands a d m work w.last
-  pub holds : (j : ℕ) → j < d → at a.ops.zero a.mean state j ≡ steps a.ops d m w.done start j
 
 pub record Ready (code count d top next room : ℕ) : Type 0 where
   pub s : code ≡ 115 → (next < count) × (top ≤ next) × (top * (d * d) + d * d ≤ room)

@@ -1,11 +1,14 @@
 -- Matrices that lie row by row in a list of elements.
 --   cell z f xs d a i j   f of the entry (i, j) of the matrix of size d that starts at place a, z past the end
+--   means a xs p          what the element of xs at place p means, zero past the end
+--   entry a d m i j       what the entry (i, j) of the matrix m of size d means
 --   times o d m n i j     the entry (i, j) of the product m × n, the earlier matrix on the left
 --   Normal f xs n         the first n elements are in normal form
 --   NormalFrom f xs a n   the n elements at place a are
 --   Blocked a d n block k  a list is the matrix of a block of n symbols, 32 at most, row by row in normal form, and a row of k elements
 --                         suffices to help it
---   Column                one column of a matrix was written
+--   WithColumn            one column of a matrix was put there
+--   IsProduct a d m n now  the matrix now is the product of m and n, in normal form
 --   Joined a d p was now  the matrix at place p was multiplied by the one after it
 --   multiplies d n k      the question of a product: is d at most 64, and are there two matrices and a row?
 --   Multiplied            what a product did, and that a refused one did nothing
@@ -19,6 +22,12 @@ use Rattle.refusal.specs.Questions.{Question, once}
 
 abbrev pub cell : {E V : Type 0} → V → (E → V) → List E → ℕ → ℕ → ℕ → ℕ → V
 cell z f xs d a i j = at z f xs (a + (i * d + j))
+
+abbrev pub means : {E : Type 0} (a : Algebra E) → List E → ℕ → a.Value
+means a xs p = at a.ops.zero a.mean xs p
+
+abbrev pub entry : {E : Type 0} (a : Algebra E) → ℕ → List E → ℕ → ℕ → a.Value
+entry a d m i j = means a m (i * d + j)
 
 abbrev pub times : {V : Type 0} → Ops V → ℕ → (ℕ → ℕ → V) → (ℕ → ℕ → V) → ℕ → ℕ → V
 times o d m n i j = sum o d (λ l. o.mul (m i l) (n l j))
@@ -36,10 +45,14 @@ pub record Blocked {E : Type 0} (a : Algebra E) (d n : ℕ) (block : List E) (k 
   pub helped : d ≤ k
   pub normal : Normal a.normal block (d * d)
 
--- column j of the matrix at place b is the row, and its other columns are as they were
-pub record Column {E V : Type 0} (z : V) (f : E → V) (row : List E) (b j d : ℕ) (was now : List E) : Type 0 where
-  pub here : (i : ℕ) → i < d → cell z f now d b i j ≡ at z f row i
-  pub others : (i k : ℕ) → i < d → k < d → (k ≢ j) → cell z f now d b i k ≡ cell z f was d b i k
+-- column j is the one that was put there, and the other columns are as they were
+pub record WithColumn {E V : Type 0} (z : V) (f : E → V) (column : List E) (j d : ℕ) (was now : List E) : Type 0 where
+  pub here : (i : ℕ) → i < d → at z f now (i * d + j) ≡ at z f column i
+  pub others : (i k : ℕ) → i < d → k < d → (k ≢ j) → at z f now (i * d + k) ≡ at z f was (i * d + k)
+
+pub record IsProduct {E : Type 0} (a : Algebra E) (d : ℕ) (m n now : List E) : Type 0 where
+  pub product : (i j : ℕ) → i < d → j < d → entry a d now i j ≡ times a.ops d (entry a d m) (entry a d n) i j
+  pub normal : Normal a.normal now (d * d)
 
 -- the matrix at place p is the product of itself and the one after it, in normal form; of the rest only the second matrix may change
 pub record Joined {E : Type 0} (a : Algebra E) (d p : ℕ) (was now : List E) : Type 0 where

@@ -1,40 +1,56 @@
 // Deliveries: symbols under a plan, given to a target.
-ghost use Rattle.std.specs.Prelude.{◌≡◌, ◌+◌, ◌*◌, ◌≤◌, ◌&&◌, [], ◌∷◌, length, nat_le};
+ghost use Rattle.std.specs.Prelude.{◌≡◌, ◌+◌, ◌*◌, ◌&&◌, [], ◌∷◌, length, nat_le};
 ghost use Rattle.plan.specs.Asks.{blocks, joins};
 ghost use Rattle.recursion.specs.Steps.{rule};
 ghost use Rattle.refusal.specs.Questions.{asked};
 ghost use Rattle.engine.specs.Deliveries.{Delivered, delivery};
+ghost use Rattle.engine.specs.Plain.{accepted};
 
 use crate::letters::evaluate;
-use crate::run::{ask_symbols, has_room};
+use crate::size::Size;
 use crate::target::Target;
 use algebra::Algebra;
 use plan::{Shape, read};
 use recursion::Recursion;
 use refusal::Refusal;
 
+// Is each symbol accepted?
+fn ask_symbols<R: Recursion>(r: &R, symbols: &[u32]) -> Result<(), Refusal>
+    ensures { result ≡ asked (accepted (rule R.Element.Algebra R.Recursion r.now) symbols.now ∷ []) (record {}) }
+{
+    for (place, symbol) in symbols.iter().enumerate() {
+        if !r.accepts(*symbol) {
+            return Err(Refusal::Symbol { place });
+        }
+    }
+    Ok(())
+}
+
 // Whether so many symbols more stay within a limit.
 fn is_within(taken: usize, symbols: usize, limit: usize) -> bool
     ensures { result ≡ nat_le (taken + symbols) limit }
 {
-    symbols <= limit && taken <= limit - symbols
+    taken.checked_add(symbols).is_some_and(|n| n <= limit)
 }
 
 // Whether target, work area and row suffice for a plan of this shape and so many blocks.
 fn has_memory<E: Algebra, T: Target<E>>(
     target: &T,
-    d: usize,
+    size: Size,
     shape: Shape,
     blocks: usize,
     buffer: usize,
     work: usize,
     row: usize,
 ) -> bool
-    requires le_d { 1 ≤ d }
-    requires d_bound { d ≤ 64 }
-    ensures { result ≡ (T.Target.roomy target.now d buffer blocks && (nat_le (shape.most * (d * d)) work && nat_le d row)) }
+    ensures { result ≡ (T.Target.roomy target.now size.rows buffer blocks && (nat_le (shape.most * (size.rows * size.rows)) work && nat_le size.rows row)) }
 {
-    target.has_room(d, buffer, blocks) && has_room(shape.most, d, work) && d <= row
+    target.has_room(size.rows, buffer, blocks)
+        && shape
+            .most
+            .checked_mul(size.elements())
+            .is_some_and(|n| n <= work)
+        && size.rows <= row
 }
 
 // Gives the symbols to a target by the blocks of a plan, and answers how many symbols and how many joins that made.
@@ -60,7 +76,7 @@ pub fn deliver<E: Algebra, R: Recursion<Element = E>, T: Target<E>>(
     ensures delivered { Delivered T.Target.Applied E.Algebra (rule E.Algebra R.Recursion r.now) symbols.now plan.now
         target.old buffer.old work.old row.old result target.new buffer.new work.new row.new }
 {
-    let d = r.size();
+    let size = Size { rows: r.size() };
     let shape = read(plan, symbols.len())?;
     ask_symbols(r, symbols)?;
     if !is_within(taken, symbols.len(), limit) {
@@ -70,7 +86,7 @@ pub fn deliver<E: Algebra, R: Recursion<Element = E>, T: Target<E>>(
     let blocks = symbols.len() - shape.joins;
     if !has_memory(
         target,
-        d,
+        size,
         shape,
         blocks,
         buffer.len(),
@@ -79,6 +95,6 @@ pub fn deliver<E: Algebra, R: Recursion<Element = E>, T: Target<E>>(
     ) {
         return Err(Refusal::Memory);
     }
-    evaluate(r, symbols, plan, d, target, buffer, work, row);
+    evaluate(r, symbols, plan, size, target, buffer, work, row);
     Ok((symbols.len(), shape.joins))
 }

@@ -3,18 +3,16 @@ ghost use Rattle.std.specs.Prelude.{◌≡◌, ◌*◌, ◌&&◌, [], ◌∷◌,
 ghost use Rattle.refusal.specs.Questions.{asked};
 ghost use Rattle.engine.specs.Matrices.{Multiplied, multiplies};
 
-use crate::matrix::{join, normalize};
+use crate::matrix::{join_pair, normalize};
+use crate::size::Size;
 use algebra::Algebra;
 use refusal::Refusal;
-
-// The largest size of a matrix.
-const LARGEST: usize = 64;
 
 // Whether so many elements hold two matrices of d × d, and a row of them its d.
 fn has_two(d: usize, work: usize, row: usize) -> bool
     ensures { result ≡ (nat_le d 64 && (nat_le d row && nat_le (2 * (d * d)) work)) }
 {
-    d <= LARGEST && d <= row && 2 * (d * d) <= work
+    d <= Size::LARGEST && d <= row && 2 * (d * d) <= work
 }
 
 // Multiplies the matrix of d × d elements at the front of the work area by the one after it. The product
@@ -27,7 +25,9 @@ pub fn multiply<E: Algebra>(work: &mut [E], row: &mut [E], d: usize) -> Result<(
     if !has_two(d, work.len(), row.len()) {
         return Err(Refusal::Memory);
     }
-    normalize(work, 2 * (d * d));
-    join(work, row, d, 0);
+    let size = Size { rows: d };
+    let pair = &mut work[..2 * size.elements()];
+    normalize(pair);
+    join_pair(size, pair, &mut row[..d]);
     Ok(())
 }

@@ -1,15 +1,14 @@
 // Runs: a state kept in a buffer, which symbols move under a plan.
-ghost use Rattle.std.specs.Prelude.{◌≡◌, ◌*◌, ◌<◌, ◌≤◌, ◌&&◌, [], ◌∷◌, length, ◌==◌, nat_le};
+ghost use Rattle.std.specs.Prelude.{◌≡◌, ◌<◌, length};
 ghost use Rattle.algebra.specs.Sums.{at};
 ghost use Rattle.plan.specs.Asks.{joins};
 ghost use Rattle.recursion.specs.Steps.{rule};
 ghost use Rattle.refusal.specs.Questions.{asked};
-ghost use Rattle.engine.specs.Plain.{accepted};
 ghost use Rattle.engine.specs.Runs.{Heard, Made, ReadServes, TakeServes, Taken, asking, looked};
 
-use crate::block::evaluate;
+use crate::delivery::deliver;
+use crate::vector::Vector;
 use algebra::Algebra;
-use plan::read;
 use recursion::Recursion;
 use refusal::Refusal;
 
@@ -20,31 +19,10 @@ pub const LIMIT: usize = 1_000_000;
 #[derive(Drop)]
 pub struct Run<'a, E> {
     state: &'a mut [E],
-    // what the run was made for, 0 before that
+    // what the run was made for; a run that was only laid is one of size 0 by its rules, and so no `None`
     size: usize,
     // how many symbols it has taken
     taken: usize,
-}
-
-// Is each symbol accepted?
-pub(crate) fn ask_symbols<R: Recursion>(r: &R, symbols: &[u32]) -> Result<(), Refusal>
-    ensures { result ≡ asked (accepted (rule R.Element.Algebra R.Recursion r.now) symbols.now ∷ []) (record {}) }
-{
-    for (place, symbol) in symbols.iter().enumerate() {
-        if !r.accepts(*symbol) {
-            return Err(Refusal::Symbol { place });
-        }
-    }
-    Ok(())
-}
-
-// Whether so many matrices of d × d elements find room among so many.
-pub(crate) fn has_room(most: usize, d: usize, room: usize) -> bool
-    requires le_d { 1 ≤ d }
-    requires d_bound { d ≤ 64 }
-    ensures { result ≡ nat_le (most * (d * d)) room }
-{
-    most <= room / (d * d)
 }
 
 // The element at a place.
@@ -119,26 +97,18 @@ impl<'a, E: Algebra> Run<'a, E> {
         ensures serves { TakeServes E.Algebra (rule E.Algebra R.Recursion r.now) symbols.now plan.now
             (length work.old) (length row.old) self.old result self.new }
     {
-        let d = r.size();
-        let shape = read(plan, symbols.len())?;
-        ask_symbols(r, symbols)?;
-        if self.taken.saturating_add(symbols.len()) > LIMIT {
-            return Err(Refusal::Limit);
-        }
-        if !self.has_memory(d, shape.most, work.len(), row.len()) {
-            return Err(Refusal::Memory);
-        }
-        evaluate(r, symbols, plan, d, self.state, work, row);
+        let answer = deliver(
+            r,
+            symbols,
+            plan,
+            self.taken,
+            LIMIT,
+            &mut Vector { size: self.size },
+            self.state,
+            work,
+            row,
+        )?;
         self.taken += symbols.len();
-        Ok((symbols.len(), shape.joins))
-    }
-
-    // Whether the run was made for d, and work area and row suffice.
-    fn has_memory(&self, d: usize, most: usize, work: usize, row: usize) -> bool
-        requires le_d { 1 ≤ d }
-        requires d_bound { d ≤ 64 }
-        ensures { result ≡ (d == self.now.size && (nat_le d (length self.now.state.now) && (nat_le (most * (d * d)) work && nat_le d row))) }
-    {
-        d == self.size && d <= self.state.len() && has_room(most, d, work) && d <= row
+        Ok(answer)
     }
 }

@@ -1,5 +1,6 @@
 -- A path is the cheapest where a test of all lists of as many bits says so.
-use Rattle.std.proofs.Common.{◌≡◌, ℕ, zero, suc, Bool, true, false, cond, ◌&&◌, ◌||◌, eqb, ltb, leb, List, [], ◌∷◌, length, refl, arith}
+use Rattle.std.proofs.Common.{◌≡◌, ℕ, zero, suc, Bool, true, cond, ◌&&◌, ◌||◌, eqb, ltb, leb, List, [], ◌∷◌, length, arith}
+use Rattle.std.proofs.lemmas.Bool.{and_parts}
 use Rattle.std.proofs.lemmas.Bool.Decides.{nat_tests}
 use Rattle.code.specs.declared.description.Code.{Code}
 use Rattle.paths.specs.Paths.{Bits, end}
@@ -12,16 +13,12 @@ abbrev of_all_bits : ℕ → (List ℕ → Bool) → Bool
 of_all_bits zero f = f []
 of_all_bits (suc n) f = of_all_bits n (λ us. f (0 ∷ us)) && of_all_bits n (λ us. f (1 ∷ us))
 
-both : (a b : Bool) → (a && b) ≡ true → (a ≡ true) × (b ≡ true)
-both true b e = (refl, e)
-both false b e = absurd (let z : ◌≡◌ {A = ℕ} 0 1 = cc in omega arith)
-
 of_each : (n : ℕ) (f : List ℕ → Bool) → of_all_bits n f ≡ true → (us : List ℕ) → Bits us → length us ≡ n → f us ≡ true
 of_each zero f e [] b l = e
 of_each zero f e (u ∷ us) b l = absurd (omega arith)
 of_each (suc n) f e [] b l = absurd (omega arith)
-of_each (suc n) f e (zero ∷ us) b l = of_each n (λ vs. f (0 ∷ vs)) (both _ _ e).0 us b.1 (omega arith)
-of_each (suc n) f e (suc zero ∷ us) b l = of_each n (λ vs. f (1 ∷ vs)) (both _ _ e).1 us b.1 (omega arith)
+of_each (suc n) f e (zero ∷ us) b l = of_each n (λ vs. f (0 ∷ vs)) (and_parts _ _ e).0 us b.1 (omega arith)
+of_each (suc n) f e (suc zero ∷ us) b l = of_each n (λ vs. f (1 ∷ vs)) (and_parts _ _ e).1 us b.1 (omega arith)
 of_each (suc n) f e (suc (suc u) ∷ us) b l = absurd (omega (arith, b.0))
 
 -- whether vs does not come before cost a and word w, or ends elsewhere

@@ -64,19 +64,18 @@ impl Frame {
             result self.new store.new work.new row.new }
     {
         let trellis = SurvivorTrellis { code: self.code };
-        let steps = self.steps;
         let answer = deliver(
             &trellis,
             symbols,
             plan,
-            steps,
+            self.steps,
             LIMIT,
             &mut self.metrics,
             store,
             work,
             row,
         )?;
-        self.steps = steps + symbols.len();
+        self.steps += symbols.len();
         Ok(answer)
     }
 

@@ -1,6 +1,7 @@
 pub mod Turns
-pub mod Keys
+pub mod Bests
 pub mod Rooms
 pub mod Offers
 pub mod Parts
+pub mod Walks
 pub mod Selects

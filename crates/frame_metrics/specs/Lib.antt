@@ -1,3 +1,3 @@
 pub mod Totals
-pub mod Keys
+pub mod Offers
 pub mod Metrics

@@ -3,7 +3,7 @@ ghost use Rattle.std.specs.Prelude.{◌≡◌, ℕ, ◌*◌, ◌<◌, ◌≤◌,
 ghost use Rattle.frame_rows.specs.Traces.{state_total, total_of};
 ghost use Rattle.frame_metrics.specs.Totals.{has_room, most_cost, most_rows};
 
-// The most states.
+// The most states. Arrays have room for as many in every frame, since no call uses a heap.
 pub(crate) const STATES: usize = 64;
 
 // The most rows that may be written.
@@ -55,6 +55,7 @@ impl Metrics {
             return false;
         }
         let rows = self.rows + blocks;
+        // a quotient, since 1 + d and the product with it could overflow
         rows == 0 || d < room / rows
     }
 }

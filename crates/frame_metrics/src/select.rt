@@ -4,18 +4,16 @@ ghost use Rattle.frame_metrics.specs.Metrics.{Selects};
 ghost use Rattle.frame_metrics.specs.Totals.{has_room, selection_allowed};
 
 use crate::metrics::{Metrics, STATES};
-use crate::offer::{best_offers, settle, write_row};
+use crate::offer::{settle, write_row};
 use algebra_survivor::Survivor;
-
-// The most symbols of a block.
-const LONGEST: usize = 32;
+use plan::BLOCK;
 
 impl Metrics {
     // Whether a block of so many symbols with a matrix of so many survivors may be selected from.
     fn may_select(&self, d: usize, symbols: usize, survivors: usize, room: usize) -> bool
         ensures { result ≡ selection_allowed self.now.rows d symbols survivors room }
     {
-        d <= STATES && symbols <= LONGEST && survivors == d * d && self.has_room_for(d, room, 1)
+        d <= STATES && symbols <= BLOCK && survivors == d * d && self.has_room_for(d, room, 1)
     }
 
     // Add, compare and select over a block, whose matrix is d × d survivors, row by row, of so many symbols:
@@ -33,16 +31,14 @@ impl Metrics {
         if !self.may_select(d, symbols, matrix.len(), store.len()) {
             return;
         }
-        let mut totals = self.totals;
-        let best = best_offers(&totals, matrix, d);
-        settle(&best[0..d], &mut totals);
+        let best = self.best_offers(matrix, d);
+        settle(&best[..d], &mut self.totals);
         let start = self.rows * (1 + d);
         write_row(
-            &best[0..d],
+            &best[..d],
             symbols as u32,
             &mut store[start..start + (1 + d)],
         );
-        self.totals = totals;
         self.rows += 1;
     }
 }

@@ -14,6 +14,9 @@ use Rattle.frame_report.specs.Deliveries.{after, answered, grown, kept, store_wo
 use Rattle.frame_report.specs.Fields.{fields, numbers, short, text_asks}
 use Rattle.frame_report.proofs.Plans.{most_short}
 
+same_answer : {A : Type 0} (x y : A) → ◌≡◌ {A = Result A Refusal} (Ok x) (Ok y) → x ≡ y
+same_answer x y e = cc
+
 -- a work area of 200 matrices asks no more than one that just suffices
 pub room_enough : (p : Plain) (ys plan : List ℕ) → length plan ≤ 200 → took k3 p ys plan 3200 4 store_words ≡ took k3 p ys plan (most plan * 16) 4 store_words
 room_enough p ys plan h =
@@ -38,9 +41,6 @@ module _ (p : Plain) (ys plan : List ℕ) (n : ℕ) (x : ℕ × ℕ) where
   abbrev symbolic : List Question
   symbolic = accepted (survivor_rule k3) ys ∷ limited
 
-  same_answer : (a : ℕ × ℕ) → ◌≡◌ {A = Result (ℕ × ℕ) Refusal} (Ok x) (Ok a) → x ≡ a
-  same_answer a e = cc
-
   pub accepted_take : took k3 p ys plan n 4 store_words ≡ Ok x → Accepted p ys plan x
   accepted_take ok =
       let a : ℕ × ℕ = (length ys, joins plan) in
@@ -53,7 +53,7 @@ module _ (p : Plain) (ys plan : List ℕ) (n : ℕ) (x : ℕ × ℕ) where
       let q = passed_rest (within limit (length p.symbols) ys) (memory ∷ []) a x q in
       let room = passed_first memory [] a x q 0 (omega arith) in
       record {
-        value = same_answer a (sym ok ∙ asked_rest [] a x a (asks plan (length ys) ++ symbolic) ok);
+        value = same_answer x a (sym ok ∙ asked_rest [] a x a (asks plan (length ys) ++ symbolic) ok);
         symbols = leb-true _ _ low;
         rows = leb-true _ _ (and_parts _ _ room).0;
       }
@@ -63,13 +63,16 @@ module _ (plan line : List ℕ) where
   pub long_text : short plan && short line ≡ false → asked {A = Unit} (text_asks plan line) tt ≡ Err (Text 0)
   long_text long = asked_no (once (short plan && short line) (Text 0)) (fields line ∷ []) tt 0 (omega arith) long (λ k h. absurd (omega arith))
 
-  pub bad_field : (n : ℕ) (e : Refusal) → short plan && short line ≡ true → Err e ≡ asked (fields line ∷ []) n → asked {A = Unit} (text_asks plan line) tt ≡ Err e
-  bad_field n e both bad =
-      asked_yes (once (short plan && short line) (Text 0)) (fields line ∷ []) tt (λ k h. both) ∙ asked_first [] n n tt (fields line ∷ []) e (sym bad)
+  pub bad_field : (e : Refusal) → short plan && short line ≡ true → asked (fields line ∷ []) (numbers line) ≡ Err e → asked {A = Unit} (text_asks plan line) tt ≡ Err e
+  bad_field e both bad =
+      asked_yes (once (short plan && short line) (Text 0)) (fields line ∷ []) tt (λ k h. both) ∙ asked_first [] (numbers line) (numbers line) tt (fields line ∷ []) e bad
 
-  pub good_text : (n m : ℕ) → short plan && short line ≡ true → Ok m ≡ asked (fields line ∷ []) n → asked {A = Unit} (text_asks plan line) tt ≡ Ok tt
-  good_text n m both good =
-      asked_yes (once (short plan && short line) (Text 0)) (fields line ∷ []) tt (λ k h. both) ∙ asked_rest [] n m tt (fields line ∷ []) (sym good)
+  pub good_text : (ys : List ℕ) → short plan && short line ≡ true → asked (fields line ∷ []) (numbers line) ≡ Ok ys
+      → (asked {A = Unit} (text_asks plan line) tt ≡ Ok tt) × (ys ≡ numbers line)
+  good_text ys both good = (
+    asked_yes (once (short plan && short line) (Text 0)) (fields line ∷ []) tt (λ k h. both) ∙ asked_rest [] (numbers line) ys tt (fields line ∷ []) good,
+    same_answer ys (numbers line) (sym good ∙ asked_rest [] (numbers line) ys (numbers line) (fields line ∷ []) good),
+  )
 
   module _ (p : Plain) where
     pub refused_text : (e : Refusal) → asked {A = Unit} (text_asks plan line) tt ≡ Err e → (answered p (plan, line) ≡ Err e) × (kept p (plan, line) ≡ p)
@@ -93,4 +96,4 @@ accepted_answer p d x ok = by (asked (text_asks d.0 d.1) tt) ok
   where
     by : (t : Result Unit Refusal) → after t (took k3 p (numbers d.1) d.0 (most d.0 * 16) 4 store_words) ≡ Ok x → Accepted p (numbers d.1) d.0 x
     by (Ok u) e = accepted_take p (numbers d.1) d.0 (most d.0 * 16) x e
-    by (Err r) e = let z : ◌≡◌ {A = ℕ} 0 1 = cc in absurd (omega arith)
+    by (Err r) e = cc

@@ -43,8 +43,8 @@ module _ (f : Frame) (store bits bits' : List ℕ) (s : length store ≡ 2560) (
   never_refused e traced = (finds (Err e) traced).1 (replicate (length p.symbols) 0) (zero_path k3 p.symbols)
 
 -- the closing line after the lines of the deliveries
-pub shows : (ds : List (List ℕ × List ℕ)) (was mid is : List ℕ) (n : ℕ) (f : Frame) (store : List ℕ) → n ≡ f.steps → Listed ds was mid f store
-    → ((p : Plain) → Follows p f store → Bounded p → n ≡ length p.symbols → Closes p.symbols mid is) → Shows ds was is
-shows ds was mid is n f store steps lines closing =
-    let k = closing (kept_all nothing ds) lines.follows lines.bounded (steps ∙ lines.counted) in
+pub shows : (ds : List (List ℕ × List ℕ)) (was mid is : List ℕ) (f : Frame) (store : List ℕ) → Listed ds was mid f store
+    → ((p : Plain) → Follows p f store → Bounded p → Closes p.symbols mid is) → Shows ds was is
+shows ds was mid is f store lines closing =
+    let k = closing (kept_all nothing ds) lines.follows lines.bounded in
     (k.0, k.1, k.2 ∙ ap (λ (l : List ℕ). l ++ closed (Ok (costs k3 0 (kept_all nothing ds).symbols k.0, k.0))) lines.shown ∙ append_assoc was (listed nothing ds) _)

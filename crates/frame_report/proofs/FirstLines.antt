@@ -1,55 +1,46 @@
--- A first line that is read byte by byte, and the lines of a text as its first line and the lines of the rest.
-use Rattle.std.proofs.Common.{◌≡◌, ℕ, ◌+◌, ◌<◌, ◌≤◌, Bool, true, false, eqb, List, [], ◌∷◌, ◌++◌, length, get_or, take, drop, sym, refl, ap, ◌∙◌, append_assoc, append-nil, arith, eq-eqb, ne_eqb}
-use Rattle.std.proofs.lemmas.List.{at_drop_more, at_drop_all, take_more, take_all}
+-- A first line that ends at the first line's end, and the lines of a text as its first line and the lines of the rest.
+use Rattle.std.proofs.Common.{◌≡◌, ℕ, ◌+◌, ◌<◌, ◌≤◌, Bool, true, false, eqb, ltb, cond, Some, None, List, [], ◌∷◌, length, take, drop, rules, sym, refl, ap, ◌∙◌, arith}
+use borrow.Author.Tests.{ltb-false}
+use Rattle.std.specs.List.{position, position_or_len}
+use Rattle.std.proofs.lemmas.List.{take_all, drop_all}
 use Rattle.frame_report.specs.Lines.{line_of, rest_of, lines, fronted, deliveries}
 
-module _ (text : List ℕ) (n : ℕ) (within : n < length text) where
-  pub line_more : (get_or text n 0 ≡ 10 → ⊥) → take n text ++ line_of (drop n text) ≡ line_of text → take (n + 1) text ++ line_of (drop (n + 1) text) ≡ line_of text
-  line_more ne before =
-      let here : line_of (drop n text) ≡ get_or text n 0 ∷ line_of (drop (n + 1) text) = at_drop_more line_of text n 0 within ∙ rw (ne_eqb (get_or text n 0) 10 ne) in
-      ap (λ (l : List ℕ). l ++ line_of (drop (n + 1) text)) (take_more text n 0 within)
-      ∙ append_assoc (take n text) (get_or text n 0 ∷ []) (line_of (drop (n + 1) text))
-      ∙ ap (λ (l : List ℕ). take n text ++ l) (sym here)
-      ∙ before
+-- how many bytes stand before the first end
+abbrev end_of : List ℕ → ℕ
+end_of text = position_or_len (λ b. eqb b 10) text
 
-  pub rest_more : (get_or text n 0 ≡ 10 → ⊥) → rest_of (drop n text) ≡ rest_of text → rest_of (drop (n + 1) text) ≡ rest_of text
-  rest_more ne before = sym (at_drop_more rest_of text n 0 within ∙ rw (ne_eqb (get_or text n 0) 10 ne)) ∙ before
-
-  pub line_end : get_or text n 0 ≡ 10 → take n text ++ line_of (drop n text) ≡ line_of text → take n text ≡ line_of text
-  line_end e before =
-      let here : line_of (drop n text) ≡ [] = at_drop_more line_of text n 0 within ∙ rw (eq-eqb (get_or text n 0) 10 e) in
-      sym (append-nil (take n text)) ∙ ap (λ (l : List ℕ). take n text ++ l) (sym here) ∙ before
-
-  pub rest_end : get_or text n 0 ≡ 10 → rest_of (drop n text) ≡ rest_of text → drop (n + 1) text ≡ rest_of text
-  rest_end e before = sym (at_drop_more rest_of text n 0 within ∙ rw (eq-eqb (get_or text n 0) 10 e)) ∙ before
-
--- a text without an end is one line
-pub line_all : (text : List ℕ) (n : ℕ) → length text ≤ n → take n text ++ line_of (drop n text) ≡ line_of text → text ≡ line_of text
-line_all text n h before =
-    sym (append-nil text) ∙ ap (λ (l : List ℕ). l ++ []) (sym (take_all n text h)) ∙ ap (λ (l : List ℕ). take n text ++ l) (sym (at_drop_all line_of text n h)) ∙ before
-
-pub rest_all : (text : List ℕ) (n : ℕ) → length text ≤ n → rest_of (drop n text) ≡ rest_of text → [] ≡ rest_of text
-rest_all text n h before = sym (at_drop_all rest_of text n h) ∙ before
-
-rest_at_most : (text : List ℕ) → length (rest_of text) ≤ length text
-rest_at_most [] = omega arith
-rest_at_most (b ∷ bs) = by (eqb b 10) refl (rest_at_most bs)
+line_of_is : (text : List ℕ) → line_of text ≡ take (end_of text) text
+line_of_is [] = refl
+line_of_is (b ∷ bs) = by (eqb b 10) refl (line_of_is bs)
   where
-    by : (t : Bool) → eqb b 10 ≡ t → length (rest_of bs) ≤ length bs → length (rest_of (b ∷ bs)) ≤ length (b ∷ bs)
-    by true e h = rw e (omega arith)
-    by false e h = rw e (omega arith)
+    by : (t : Bool) → eqb b 10 ≡ t → line_of bs ≡ take (end_of bs) bs → line_of (b ∷ bs) ≡ take (end_of (b ∷ bs)) (b ∷ bs)
+    by true e h = rw e
+    by false e h = rw e (search (rules, h))
 
-pub rest_shorter : (text : List ℕ) → 0 < length text → length (rest_of text) < length text
-rest_shorter [] h = absurd (omega arith)
-rest_shorter (b ∷ bs) h = by (eqb b 10) refl (rest_at_most bs)
+rest_of_is : (text : List ℕ) → rest_of text ≡ drop (end_of text + 1) text
+rest_of_is [] = refl
+rest_of_is (b ∷ bs) = by (eqb b 10) refl (rest_of_is bs)
   where
-    by : (t : Bool) → eqb b 10 ≡ t → length (rest_of bs) ≤ length bs → length (rest_of (b ∷ bs)) < length (b ∷ bs)
-    by true e m = rw e (omega arith)
-    by false e m = rw e (omega arith)
+    by : (t : Bool) → eqb b 10 ≡ t → rest_of bs ≡ drop (end_of bs + 1) bs → rest_of (b ∷ bs) ≡ drop (end_of (b ∷ bs) + 1) (b ∷ bs)
+    by true e h = rw e
+    by false e h = rw e (search (rules, h))
 
--- two lines are taken off
-pub rest_rest_shorter : (text : List ℕ) → 0 < length text → length (rest_of (rest_of text)) < length text
-rest_rest_shorter text h = omega (arith, rest_shorter text h, rest_at_most (rest_of text))
+module _ (text : List ℕ) where
+  pub ends_at : (n : ℕ) → position (λ b. eqb b 10) text ≡ Some n → (take n text ≡ line_of text) × (drop (n + 1) text ≡ rest_of text)
+  ends_at n e = by (ltb (end_of text) (length text)) e
+    where
+      by : (t : Bool) → cond t (Some (end_of text)) None ≡ Some n → (take n text ≡ line_of text) × (drop (n + 1) text ≡ rest_of text)
+      by true e = let same : n ≡ end_of text = cc in rw same (sym (line_of_is text), sym (rest_of_is text))
+      by false e = cc
+
+  pub ends_nowhere : position (λ b. eqb b 10) text ≡ None → (text ≡ line_of text) × ([] ≡ rest_of text)
+  ends_nowhere e = by (ltb (end_of text) (length text)) refl e
+    where
+      by : (t : Bool) → ltb (end_of text) (length text) ≡ t → cond t (Some (end_of text)) None ≡ None → (text ≡ line_of text) × ([] ≡ rest_of text)
+      by true l e = cc
+      by false l e =
+          let all : length text ≤ end_of text = ltb-false _ _ l in
+          (sym (take_all (end_of text) text all) ∙ sym (line_of_is text), sym (drop_all (end_of text + 1) text (omega arith)) ∙ sym (rest_of_is text))
 
 -- a text that is not empty has a first line, and the lines of the rest after it
 pub lines_more : (text : List ℕ) → 0 < length text → lines text ≡ line_of text ∷ lines (rest_of text)

@@ -1,5 +1,7 @@
+pub mod Widths
 pub mod FirstLines
 pub mod Digits
+pub mod Chunks
 pub mod Plans
 pub mod Answers
 pub mod Gives

@@ -17,19 +17,19 @@ module _ (line : List ℕ) where
     where
       by : (t : Bool) → bytes_eq line (codes "k3") ≡ t → (bytes_eq line (codes "k3") ≡ true) × (c ≡ k3)
       by true s = let o : ◌≡◌ {A = Result Code Refusal} (Ok c) (Ok k3) = rw s at e in (s, cc)
-      by false s = let o : ◌≡◌ {A = Result Code Refusal} (Ok c) (Err Name) = rw s at e in let z : ◌≡◌ {A = ℕ} 0 1 = cc in absurd (omega arith)
+      by false s = let o : ◌≡◌ {A = Result Code Refusal} (Ok c) (Err Name) = rw s at e in cc
 
   pub coded_err : (r : Refusal) → Err r ≡ coded line → (bytes_eq line (codes "k3") ≡ false) × (r ≡ Name)
   coded_err r e = by (bytes_eq line (codes "k3")) refl
     where
       by : (t : Bool) → bytes_eq line (codes "k3") ≡ t → (bytes_eq line (codes "k3") ≡ false) × (r ≡ Name)
-      by true s = let o : ◌≡◌ {A = Result Code Refusal} (Err r) (Ok k3) = rw s at e in let z : ◌≡◌ {A = ℕ} 0 1 = cc in absurd (omega arith)
+      by true s = let o : ◌≡◌ {A = Result Code Refusal} (Err r) (Ok k3) = rw s at e in cc
       by false s = let o : ◌≡◌ {A = Result Code Refusal} (Err r) (Err Name) = rw s at e in (s, cc)
 
 -- the input begins with the line of the code
 pub read_decoded : (input rest was out : List ℕ) → bytes_eq (line_of input) (codes "k3") ≡ true → rest ≡ rest_of input → was ≡ [] → Shows (deliveries (lines rest)) was out
     → Read (lines input) out
-read_decoded [] rest was out named after fresh shown = let z : ◌≡◌ {A = Bool} false true = named in let y : ◌≡◌ {A = ℕ} 0 1 = cc in absurd (omega arith)
+read_decoded [] rest was out named after fresh shown = let z : ◌≡◌ {A = Bool} false true = named in cc
 read_decoded (b ∷ bs) rest was out named after fresh shown =
     let all : Shows (deliveries (lines (rest_of (b ∷ bs)))) [] out =
     subst (λ (l : List ℕ). Shows (deliveries (lines l)) [] out) after (subst (λ (l : List ℕ). Shows (deliveries (lines rest)) l out) fresh shown) in

@@ -1,29 +1,28 @@
 // A frame's deliveries and its closing line, in memory of its own.
-ghost use Rattle.std.specs.Prelude.{◌≡◌, ◌≤◌, length, string_bytes, OnOk};
+ghost use Rattle.std.specs.Prelude.{◌≡◌, ◌≤◌, string_bytes, OnOk};
 ghost use Rattle.code.specs.Codes.{k3};
-ghost use Rattle.frame.specs.Histories.{Counted, Whole};
-ghost use Rattle.frame.specs.Plain.{Plain};
+ghost use Rattle.frame.specs.Plain.{Plain, nothing};
 ghost use Rattle.frame_report.specs.Deliveries.{Bounded};
-ghost use Rattle.frame_report.specs.Follows.{Closes, Follows, Shows};
+ghost use Rattle.frame_report.specs.Follows.{Closes, Follows, Gave, Listed, Shows};
 ghost use Rattle.frame_report.specs.Lines.{deliveries, lines as all_lines};
 
-use crate::columns::{push_decoded, push_refused};
-use crate::giving::push_deliveries;
+use crate::columns::{Decoded, Delivered, Refused};
+use crate::fields::read_numbers;
+use crate::lines::{Deliveries, Delivery, LINE};
 use algebra_survivor::Survivor;
-use frame::Frame;
-use std::alloc::{AllocError, Global};
-
-// A work area of 200 matrices: a plan of at most 200 letters never has more standing.
-const WORK: usize = 3200;
+use code::Code;
+use frame::{Frame, LIMIT};
+use refusal::Refusal;
+use std::alloc::AllocError;
 
 // The states of k3.
 const STATES: usize = 4;
 
-// A store of 512 rows, each a length and a word for each state.
-const STORE: usize = 2560;
+// A work area of a matrix for each letter of a plan: no plan ever has more standing.
+const WORK: usize = LINE * STATES * STATES;
 
-// A bit for each symbol that a frame may take.
-const BITS: usize = 4096;
+// A store of 512 rows, each a length and a word for each state.
+const STORE: usize = 512 * (1 + STATES);
 
 // What a row of the work area holds before it is used.
 const UNUSED: Survivor = Survivor {
@@ -35,42 +34,85 @@ const UNUSED: Survivor = Survivor {
 // The state that every path starts in, and that is decoded.
 const STATE: usize = 0;
 
-// Writes the closing line, of a frame that took so many symbols.
-fn push_closing(
-    out: &mut String,
-    frame: &Frame,
-    taken: usize,
-    store: &[u32],
-    bits: &mut [u8],
-    heap: Global,
-) -> Result<(), AllocError>
-    requires taken { taken ≤ 4096 }
-    requires store { length store.now ≡ 2560 }
-    requires bits { length bits.old ≡ 4096 }
-    ensures { OnOk result ((p : Plain) → Follows p frame.now store.now → Bounded p → taken ≡ length p.symbols
-        → Closes p.symbols (string_bytes out.old) (string_bytes out.new)) }
-{
-    match frame.decode(STATE, store, bits) {
-        Ok(cost) => push_decoded(out, cost, &bits[0..taken], heap),
-        Err(refusal) => push_refused(out, refusal, heap),
+// A frame of the code k3 with the memory that it works in.
+#[derive(Drop)]
+struct Decoder {
+    frame: Frame,
+    work: [Survivor; WORK],
+    row: [Survivor; STATES],
+    store: [u32; STORE],
+}
+
+impl Decoder {
+    // A decoder with a fresh frame.
+    fn new(code: Code) -> Decoder
+        requires { code ≡ k3 }
+        ensures { Follows nothing result.frame result.store }
+    {
+        Decoder {
+            frame: Frame::new(code),
+            work: [UNUSED; WORK],
+            row: [UNUSED; STATES],
+            store: [0; STORE],
+        }
+    }
+
+    // Gives a delivery to the frame, after the questions of its text.
+    fn give(&mut self, delivery: Delivery) -> Result<(usize, usize), Refusal>
+        ensures { Gave (delivery.entry.plan.now, delivery.entry.symbols.now) self.old.frame self.old.store result
+            self.new.frame self.new.store }
+    {
+        let Delivery { plan, symbols } = delivery;
+        if plan.len() > LINE || symbols.len() > LINE {
+            return Err(Refusal::Text { place: 0 });
+        }
+        let numbers = read_numbers(symbols)?;
+        self.frame.take(
+            numbers.as_slice(),
+            plan,
+            &mut self.work,
+            &mut self.row,
+            &mut self.store,
+        )
+    }
+
+    // Writes the line of each delivery of a text.
+    fn write_deliveries(&mut self, text: &[u8], out: &mut String) -> Result<(), AllocError>
+        requires fresh { Follows nothing self.old.frame self.old.store }
+        ensures { OnOk result (Listed (deliveries (all_lines text.now)) (string_bytes out.old) (string_bytes out.new)
+            self.new.frame self.new.store) }
+    {
+        for delivery in Deliveries(text) {
+            let answer = self.give(delivery);
+            write!(out, "{}", Delivered(answer))?;
+        }
+        Ok(())
+    }
+
+    // Writes the closing line.
+    fn write_closing(&self, out: &mut String) -> Result<(), AllocError>
+        requires { self.now.frame.steps ≤ LIMIT }
+        ensures { OnOk result ((p : Plain) → Follows p self.now.frame self.now.store → Bounded p
+            → Closes p.symbols (string_bytes out.old) (string_bytes out.new)) }
+    {
+        let steps = self.frame.steps();
+        let mut bits = [0; LIMIT];
+        match self.frame.decode(STATE, &self.store, &mut bits) {
+            Ok(cost) => {
+                let bits = &bits[..steps];
+                write!(out, "{}", Decoded { cost, bits })
+            }
+            Err(refusal) => write!(out, "{}", Refused(refusal)),
+        }
     }
 }
 
-// Writes the line of each delivery of a text to a fresh frame, and the closing line.
-pub(crate) fn push_frame(
-    out: &mut String,
-    mut frame: Frame,
-    text: &[u8],
-    heap: Global,
-) -> Result<(), AllocError>
-    requires fresh { Whole k3 frame }
-    requires counted { Counted k3 frame }
+// Writes the line of each delivery of a text to a fresh frame of the code k3, and the closing line.
+pub(crate) fn write_frame(code: Code, text: &[u8], out: &mut String) -> Result<(), AllocError>
+    requires { code ≡ k3 }
     ensures { OnOk result (Shows (deliveries (all_lines text.now)) (string_bytes out.old) (string_bytes out.new)) }
 {
-    let mut work = [UNUSED; WORK];
-    let mut row = [UNUSED; STATES];
-    let mut store = [0; STORE];
-    let mut bits = [0; BITS];
-    push_deliveries(out, text, &mut frame, &mut work, &mut row, &mut store, heap)?;
-    push_closing(out, &frame, frame.steps(), &store, &mut bits, heap)
+    let mut decoder = Decoder::new(code);
+    decoder.write_deliveries(text, out)?;
+    decoder.write_closing(out)
 }

@@ -1,12 +1,18 @@
 // Fields of four columns.
-ghost use Rattle.std.specs.Prelude.{◌≡◌, ◌*◌, ◌≤◌, [], ◌∷◌, length, take, IfOk};
+ghost use Rattle.std.specs.Prelude.{◌≡◌, ◌≤◌, [], ◌∷◌, length};
+ghost use Rattle.std.specs.Result.{result_map_both};
 ghost use Rattle.refusal.specs.Questions.{asked};
-ghost use Rattle.frame_report.specs.Fields.{field_count, number_of_field, fields as each_field, numbers as all_numbers};
+ghost use Rattle.frame_report.specs.Fields.{number_of_field, fields as each_field, numbers as all_numbers};
 
+use crate::lines::LINE;
+use arrayvec::ArrayVec;
 use refusal::Refusal;
 
 // The columns of a field.
 const FIELD: usize = 4;
+
+// The most fields of a line.
+const FIELDS: usize = LINE / FIELD;
 
 // The number in a field: blanks, and then at least one digit.
 fn field_number(field: &[u8]) -> Option<u32>
@@ -15,39 +21,26 @@ fn field_number(field: &[u8]) -> Option<u32>
     if field.len() != FIELD {
         return None;
     }
-    let mut at = 0;
-    'blanks: while at < FIELD && field[at] == b' ' {
-        at += 1;
-    }
-    if at == FIELD {
-        return None;
-    }
-    let mut value = 0u32;
-    'digits: while at < FIELD {
-        let byte = field[at];
-        if byte < b'0' || byte > b'9' {
+    let start = field.iter().position(|byte| *byte != b' ')?;
+    let mut value = 0;
+    for byte in &field[start..] {
+        if !byte.is_ascii_digit() {
             return None;
         }
-        value = value * 10 + (byte - b'0') as u32;
-        at += 1;
+        value = value * 10 + u32::from(*byte - b'0');
     }
     Some(value)
 }
 
-// Reads the numbers of a line's fields, and says how many they are.
-pub(crate) fn read_numbers(line: &[u8], numbers: &mut [u32]) -> Result<usize, Refusal>
-    requires { length line.now ≤ 4 * length numbers.old }
-    ensures answer { result ≡ asked (each_field line.now ∷ []) (field_count line.now) }
-    ensures read { IfOk result (λ n. take n numbers.new ≡ all_numbers line.now) }
+// The numbers of a line's fields.
+pub(crate) fn read_numbers(line: &[u8]) -> Result<ArrayVec<u32, FIELDS>, Refusal>
+    requires { length line.now ≤ LINE }
+    ensures { result_map_both (λ v. v.items) (λ e. e) result ≡ asked (each_field line.now ∷ []) (all_numbers line.now) }
 {
-    let count = line.len().div_ceil(FIELD);
-    for place in 0..count {
-        let start = place * FIELD;
-        let end = line.len().min(start + FIELD);
-        match field_number(&line[start..end]) {
-            Some(number) => numbers[place] = number,
-            None => return Err(Refusal::Text { place }),
-        }
+    let mut numbers = ArrayVec::new();
+    for (place, field) in line.chunks(FIELD).enumerate() {
+        let number = field_number(field).ok_or(Refusal::Text { place })?;
+        numbers.push(number);
     }
-    Ok(count)
+    Ok(numbers)
 }

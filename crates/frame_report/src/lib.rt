@@ -5,14 +5,15 @@ ghost use Rattle.std.specs.Prelude.{◌≡◌, IfOk, string_bytes};
 ghost use Rattle.frame_report.specs.Report.{Printed, coded};
 
 use code::{Code, by_name};
-use frame::Frame;
+use columns::Refused;
+use decoding::write_frame;
+use lines::split_line;
 use refusal::Refusal;
 use std::alloc::{AllocError, Global};
 
 mod columns;
 mod decoding;
 mod fields;
-mod giving;
 mod lines;
 
 // The most bytes that an input may have.
@@ -22,10 +23,9 @@ pub const BYTES: usize = 1_000_000;
 fn code_named(line: &[u8]) -> Result<Code, Refusal>
     ensures { result ≡ coded line.now }
 {
-    if line == b"k3".as_slice() {
-        by_name("k3")
-    } else {
-        Err(Refusal::Name)
+    match line {
+        b"k3" => by_name("k3"),
+        _ => Err(Refusal::Name),
     }
 }
 
@@ -43,13 +43,13 @@ pub fn report(heap: Global, input: &[u8]) -> Result<String, AllocError>
 {
     let mut out = String::new(heap);
     if input.len() > BYTES {
-        columns::push_refused(&mut out, Refusal::Limit, heap)?;
+        write!(out, "{}", Refused(Refusal::Limit))?;
         return Ok(out);
     }
-    let (name, text) = lines::split_line(input);
+    let (name, text) = split_line(input);
     match code_named(name) {
-        Ok(code) => decoding::push_frame(&mut out, Frame::new(code), text, heap)?,
-        Err(refusal) => columns::push_refused(&mut out, refusal, heap)?,
+        Ok(code) => write_frame(code, text, &mut out)?,
+        Err(refusal) => write!(out, "{}", Refused(refusal))?,
     }
     Ok(out)
 }

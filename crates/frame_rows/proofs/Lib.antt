@@ -2,3 +2,4 @@ pub mod Rooms
 pub mod Traces
 pub mod Turns
 pub mod Questions
+pub mod Walks

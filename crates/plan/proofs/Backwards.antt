@@ -1,7 +1,9 @@
 -- What the top matrices of a stack have is found by reading the letters backwards.
-use Rattle.std.proofs.Common.{◌≡◌, ℕ, zero, suc, ◌+◌, ◌-◌, ◌<◌, ◌≤◌, true, leb, List, [], ◌∷◌, length, get_or, refl, ap, ◌∙◌, subst, inl, inr, add-one, arith}
+use Rattle.std.proofs.Common.{◌≡◌, ℕ, zero, suc, ◌+◌, ◌-◌, ◌<◌, ◌≤◌, true, leb, List, [], ◌∷◌, length, take, get_or, refl, sym, ap, ◌∙◌, subst, inl, inr, add-one, arith}
 use Rattle.std.proofs.lemmas.Bool.{cases_lt, cases_eq}
 use Rattle.std.proofs.lemmas.Bool.Decides.{nat_tests}
+use Rattle.std.proofs.lemmas.List.{take_at, get_or_at, get_or-take, length-take-le, length_push, take-take}
+use Rattle.std.specs.List.{push}
 use Rattle.plan.specs.Plans.{Tree, size, joined, after}
 use Rattle.plan.specs.Plans.{Single, Join}
 use Rattle.plan.specs.Asks.{top, height, finds}
@@ -100,3 +102,14 @@ module _ (plan : List ℕ) (place : ℕ) (inside : place ≤ length plan) (serve
               grind (arith, nat_tests)
         ]
       ]
+
+-- the part before a place, with its last letter taken off
+pub without_last : (plan before : List ℕ) (x p : ℕ) → p ≤ length plan → take p plan ≡ push before x
+    → (p ≡ length before + 1) × (before ≡ take (length before) plan) × (x ≡ get_or plan (length before) 0)
+without_last plan before x p h e =
+    let n = length before in
+    let long : p ≡ n + 1 = sym (length-take-le p plan h) ∙ ap length e ∙ length_push before x in (
+      long,
+      sym (take_at before (x ∷ []) n refl) ∙ ap (take n) (sym e) ∙ take-take n p plan (omega arith),
+      sym (get_or_at before x [] 0 n refl) ∙ ap (λ z. get_or z n 0) (sym e) ∙ get_or-take p plan n 0 (omega arith),
+    )

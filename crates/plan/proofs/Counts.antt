@@ -19,16 +19,16 @@ module _ (plan : List ℕ) where
     pub few_standing : t.standing ≤ p
     pub found : (q : ℕ) → q < p → finds plan q ≡ true
 
-  pub none_counted : Counted 0 (record { singles = 0; joins = 0; standing = 0; most = 0 })
-  none_counted = record {
-    singles = sym (tally_none _);
-    joins = sym (tally_none _);
-    standing = refl;
-    most = sym (peak_one _ refl);
+  pub none_counted : (t : Tally) → t.singles ≡ 0 → t.joins ≡ 0 → t.standing ≡ 0 → t.most ≡ 0 → Counted 0 t
+  none_counted t s j h m = record {
+    singles = s ∙ sym (tally_none _);
+    joins = j ∙ sym (tally_none _);
+    standing = h;
+    most = m ∙ sym (peak_one _ refl);
     few_singles = omega arith;
     few_joins = omega arith;
     few_standing = omega arith;
-    found = λ q h. absurd (omega arith);
+    found = λ q l. absurd (omega arith);
   }
 
   module _ (p : ℕ) (t : Tally) (inside : p < length plan) (now : Counted p t) where

@@ -6,3 +6,4 @@ pub mod Spells
 pub mod Flats
 pub mod Blocks
 pub mod Passed
+pub mod Letters

@@ -1,3 +1,4 @@
 pub mod Plans
 pub mod Asks
+pub mod Letters
 pub mod Tallies

@@ -4,10 +4,15 @@
 ghost use Rattle.std.specs.Prelude.{◌≡◌, ℕ, ◌+◌, ◌^◌, ◌<◌, ◌≤◌, true, [], ◌∷◌, length, nat_le};
 ghost use Rattle.refusal.specs.Questions.{asked};
 ghost use Rattle.plan.specs.Plans.{after};
+ghost use Rattle.plan.specs.Letters.{code};
 ghost use Rattle.plan.specs.Asks.{asks, finds, fits, height, knows, served, shape, stands, top};
 ghost use Rattle.plan.specs.Tallies.{counting, tallied};
 
 use refusal::Refusal;
+
+mod letter;
+
+pub use letter::Letter;
 
 // The most symbols that one block may have.
 pub const BLOCK: usize = 32;
@@ -22,7 +27,7 @@ pub struct Shape {
 }
 
 // What the letters so far come to.
-#[derive(Clone, Copy)]
+#[derive(Clone, Copy, Default)]
 struct Tally {
     singles: usize,
     joins: usize,
@@ -43,51 +48,41 @@ fn ask_letters(plan: &[u8]) -> Result<(), Refusal>
     Ok(())
 }
 
-// Whether a letter finds what it needs where so many matrices stand; any letter but s and j is an a by now.
-fn is_served(code: u8, standing: usize) -> bool
-    ensures { result ≡ served code standing }
+// Whether a letter finds what it needs where so many matrices stand.
+fn is_served(letter: Letter, standing: usize) -> bool
+    ensures { result ≡ served (code letter) standing }
 {
-    match code {
-        b's' => true,
-        b'j' => standing >= 2,
-        _ => standing == 1,
+    match letter {
+        Letter::Single => true,
+        Letter::Join => standing >= 2,
+        Letter::Apply => standing == 1,
     }
 }
 
 impl Tally {
-    const NONE: Tally = Tally {
-        singles: 0,
-        joins: 0,
-        standing: 0,
-        most: 0,
-    };
-
     // One letter more, which finds what it needs.
-    fn with(self, code: u8) -> Tally
-        requires standing_value { served code self.standing ≡ true }
+    fn with(self, letter: Letter) -> Tally
+        requires standing_value { served (code letter) self.standing ≡ true }
         requires singles_bound { self.singles + 1 < 2 ^ 64 }
         requires joins_bound { self.joins + 1 < 2 ^ 64 }
         requires standing_bound { self.standing + 1 < 2 ^ 64 }
-        ensures { result ≡ counting self code }
+        ensures { result ≡ counting self (code letter) }
     {
-        match code {
-            b's' => Tally {
+        match letter {
+            Letter::Single => Tally {
                 singles: self.singles + 1,
-                joins: self.joins,
                 standing: self.standing + 1,
                 most: self.most.max(self.standing + 1),
+                ..self
             },
-            b'j' => Tally {
-                singles: self.singles,
+            Letter::Join => Tally {
                 joins: self.joins + 1,
                 standing: self.standing - 1,
-                most: self.most,
+                ..self
             },
-            _ => Tally {
-                singles: self.singles,
-                joins: self.joins,
+            Letter::Apply => Tally {
                 standing: 0,
-                most: self.most,
+                ..self
             },
         }
     }
@@ -97,12 +92,13 @@ impl Tally {
 fn ask_standing(plan: &[u8]) -> Result<Tally, Refusal>
     ensures { result ≡ asked (stands plan.now ∷ []) (tallied plan.now) }
 {
-    let mut tally = Tally::NONE;
+    let mut tally = Tally::default();
     for (place, code) in plan.iter().enumerate() {
-        if !is_served(*code, tally.standing) {
+        let letter = Letter::of(*code);
+        if !is_served(letter, tally.standing) {
             return Err(Refusal::Standing { place });
         }
-        tally = tally.with(*code);
+        tally = tally.with(letter);
     }
     Ok(tally)
 }
@@ -117,14 +113,16 @@ fn is_block(plan: &[u8], place: usize) -> bool
 {
     let mut wanted = 2;
     let mut found = 0;
-    let mut p = place;
-    while p > 0 && wanted > 0 && found + wanted <= BLOCK {
-        p -= 1;
-        if plan[p] == b's' {
-            wanted -= 1;
-            found += 1;
-        } else {
-            wanted += 1;
+    for code in plan[..place].iter().rev() {
+        if wanted == 0 || found + wanted > BLOCK {
+            break;
+        }
+        match Letter::of(*code) {
+            Letter::Single => {
+                wanted -= 1;
+                found += 1;
+            }
+            _ => wanted += 1,
         }
     }
     found + wanted <= BLOCK
@@ -136,7 +134,7 @@ fn ask_blocks(plan: &[u8]) -> Result<(), Refusal>
     ensures { result ≡ asked (fits plan.now ∷ []) (record {}) }
 {
     for (place, code) in plan.iter().enumerate() {
-        if *code == b'j' && !is_block(plan, place) {
+        if Letter::of(*code) == Letter::Join && !is_block(plan, place) {
             return Err(Refusal::Block { place });
         }
     }

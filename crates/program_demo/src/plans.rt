@@ -1,8 +1,8 @@
 // Plans of whole deliveries: blocks of up to 32 symbols, bracketed one way or another.
+use plan::BLOCK;
 use std::alloc::{AllocError, Global};
-
-// The most symbols of a block.
-const BLOCK: usize = 32;
+use std::fmt;
+use std::iter::repeat_n;
 
 // How the symbols of a block are joined.
 #[derive(Clone, Copy)]
@@ -17,6 +17,17 @@ pub enum Bracketing {
     Balanced,
 }
 
+impl fmt::Display for Bracketing {
+    fn fmt<W: fmt::Write>(&self, f: &mut fmt::Formatter<W>) -> fmt::Result {
+        f.write_str(match self {
+            Bracketing::Single => "single steps",
+            Bracketing::Left => "left-nested",
+            Bracketing::Right => "right-nested",
+            Bracketing::Balanced => "balanced",
+        })
+    }
+}
+
 impl Bracketing {
     pub const ALL: [Bracketing; 4] = [
         Bracketing::Single,
@@ -25,28 +36,15 @@ impl Bracketing {
         Bracketing::Balanced,
     ];
 
-    pub(crate) fn name(self) -> &'static str {
-        match self {
-            Bracketing::Single => "single steps",
-            Bracketing::Left => "left-nested",
-            Bracketing::Right => "right-nested",
-            Bracketing::Balanced => "balanced",
-        }
-    }
-
-    // The plan of a delivery of so many symbols.
-    pub(crate) fn plan(self, heap: Global, symbols: usize) -> Result<Vec<u8>, AllocError> {
-        let block = match self {
+    // The plan of a delivery of these symbols.
+    pub(crate) fn plan(self, heap: Global, symbols: &[u32]) -> Result<Vec<u8>, AllocError> {
+        let size = match self {
             Bracketing::Single => 1,
             _ => BLOCK,
         };
         let mut plan = Vec::new(heap);
-        for _ in 0..symbols / block {
-            self.push_block(&mut plan, block)?;
-        }
-        let rest = symbols % block;
-        if rest > 0 {
-            self.push_block(&mut plan, rest)?;
+        for block in symbols.chunks(size) {
+            self.push_block(&mut plan, block.len())?;
         }
         Ok(plan)
     }
@@ -62,18 +60,11 @@ impl Bracketing {
                 Bracketing::Balanced => i.trailing_zeros() as usize,
                 _ => 0,
             };
-            push_joins(plan, joins)?;
+            plan.extend(repeat_n(b'j', joins))?;
             standing = standing.saturating_add(1).saturating_sub(joins);
         }
-        push_joins(plan, standing.saturating_sub(1))?;
+        plan.extend(repeat_n(b'j', standing.saturating_sub(1)))?;
         plan.push(b'a')?;
         Ok(())
     }
-}
-
-fn push_joins(plan: &mut Vec<u8>, joins: usize) -> Result<(), AllocError> {
-    for _ in 0..joins {
-        plan.push(b'j')?;
-    }
-    Ok(())
 }

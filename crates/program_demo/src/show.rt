@@ -3,40 +3,28 @@ use crate::plans::Bracketing;
 use algebra_scalars::{Bit, Count};
 use anyhow::anyhow;
 use code::by_name;
+use plan::BLOCK;
 use run_blocks::{Checked, check_by_blocks};
 use run_check::check;
 use run_counter::Counter;
 use std::alloc::{AllocError, Global};
 
-// Places of the check register, and of a block of 32 of its matrices.
+// Places of the check register.
 const PLACES: usize = 33;
-
-const STANDING: usize = 32;
 
 // The bits of bytes, the lowest of each byte first.
 fn bits_of(heap: Global, bytes: &[u8]) -> Result<Vec<u8>, AllocError> {
-    let mut bits = Vec::new(heap);
-    for byte in bytes {
-        for k in 0..8u32 {
-            bits.push((*byte >> k) & 1)?;
-        }
-    }
-    Ok(bits)
-}
-
-fn symbols_of(heap: Global, bits: &[u8]) -> Result<Vec<u32>, AllocError> {
-    let mut symbols = Vec::new(heap);
-    for bit in bits {
-        symbols.push(u32::from(*bit))?;
-    }
-    Ok(symbols)
+    bytes
+        .iter()
+        .flat_map(|byte| (0..8u32).map(|k| (*byte >> k) & 1))
+        .collect(heap)
 }
 
 // The CRC-32 of the bytes by blocks under each plan, and by shifting.
 pub(crate) fn checks(rt: &HostRuntime, bytes: &[u8]) -> anyhow::Result<()> {
     let heap = rt.alloc();
     let bits = bits_of(heap, bytes)?;
-    let symbols = symbols_of(heap, bits.as_slice())?;
+    let symbols: Vec<u32> = bits.iter().copied().map(u32::from).collect(heap)?;
     let length = bytes.len();
     match check(bits.as_slice()) {
         Ok(value) => println!(rt; "crc-32 of {length} bytes by shifting: {value:08X}")?,
@@ -50,18 +38,17 @@ pub(crate) fn checks(rt: &HostRuntime, bytes: &[u8]) -> anyhow::Result<()> {
 
 fn blocks(rt: &HostRuntime, symbols: &[u32], bracketing: Bracketing) -> anyhow::Result<()> {
     let heap = rt.alloc();
-    let plan = bracketing.plan(heap, symbols.len())?;
+    let plan = bracketing.plan(heap, symbols)?;
     let mut row = [Bit(false); PLACES];
-    let mut work = vec![in heap; Bit(false); STANDING * PLACES * PLACES]?;
-    let name = bracketing.name();
+    let mut work = vec![in heap; Bit(false); BLOCK * PLACES * PLACES]?;
     let taken = symbols.len();
     match check_by_blocks(symbols, plan.as_slice(), work.as_mut_slice(), &mut row) {
         Ok(Checked { value, joins }) => {
             println!(rt;
-                "crc-32 by blocks, {name}: {value:08X} after {taken} symbols and {joins} joins"
+                "crc-32 by blocks, {bracketing}: {value:08X} after {taken} symbols and {joins} joins"
             )?;
         }
-        Err(refusal) => println!(rt; "crc-32 by blocks, {name}: {refusal}")?,
+        Err(refusal) => println!(rt; "crc-32 by blocks, {bracketing}: {refusal}")?,
     }
     Ok(())
 }
@@ -94,22 +81,19 @@ pub(crate) fn counts(rt: &HostRuntime) -> anyhow::Result<()> {
 
 fn counts_by_blocks(rt: &HostRuntime, bracketing: Bracketing) -> anyhow::Result<()> {
     let heap = rt.alloc();
-    let Ok(code) = by_name("k3") else {
-        return Err(anyhow!("k3 is a code"));
-    };
-    let plan = bracketing.plan(heap, SYMBOLS.len())?;
+    let code = by_name("k3").map_err(|_| anyhow!("k3 is a code"))?;
+    let plan = bracketing.plan(heap, &SYMBOLS)?;
     let mut state = [Count(0); 4];
     let mut row = [Count(0); 4];
     let mut work = [Count(0); 512];
     let mut counter = Counter::over(code, &mut state);
-    let name = bracketing.name();
     match counter.take(&SYMBOLS, plan.as_slice(), &mut work, &mut row) {
         Ok((taken, joins)) => print!(rt;
-            "paths of k3, {name}: {taken} symbols and {joins} joins:"
+            "paths of k3, {bracketing}: {taken} symbols and {joins} joins:"
         )?,
-        Err(refusal) => print!(rt; "paths of k3, {name}: {refusal}:")?,
+        Err(refusal) => print!(rt; "paths of k3, {bracketing}: {refusal}:")?,
     }
-    for end in 0..4usize {
+    for end in 0..code.states() {
         match counter.count(end) {
             Ok(Some(paths)) => print!(rt; " {paths} to {end}")?,
             Ok(None) => print!(rt; " none to {end}")?,

@@ -1,14 +1,16 @@
 // The cases: frames, each with what other software answers at some of its end states.
 use crate::fields;
-use algebra_survivor::Survivor;
-use anyhow::anyhow;
-use code::{Code, by_name};
-use frame::{Frame, LIMIT};
+use anyhow::{Context, anyhow};
+use frame::Frame;
+use frame_desk::Desk;
 use refusal::Refusal;
-use std::alloc::{AllocError, Global};
+use std::alloc::Global;
+use std::fmt;
+use std::str::FromStr;
+use vectors::{Tally, bits, listed};
 
 // How the symbols of a frame were chosen.
-#[derive(Clone, Copy, PartialEq, Eq)]
+#[derive(Clone, Copy, PartialEq, Eq, PartialOrd, Ord)]
 pub enum Kind {
     Short,
     Noisy,
@@ -18,183 +20,108 @@ pub enum Kind {
     Full,
 }
 
-// What a case is about.
-#[derive(Clone, Copy)]
-pub struct Subject {
+impl Kind {
+    pub const ALL: [Kind; 6] = [
+        Kind::Short,
+        Kind::Noisy,
+        Kind::Erased,
+        Kind::Tied,
+        Kind::Random,
+        Kind::Full,
+    ];
+
+    fn name(self) -> &'static str {
+        match self {
+            Kind::Short => "short",
+            Kind::Noisy => "noisy",
+            Kind::Erased => "erased",
+            Kind::Tied => "tied",
+            Kind::Random => "random",
+            Kind::Full => "full",
+        }
+    }
+}
+
+impl fmt::Display for Kind {
+    fn fmt<W: fmt::Write>(&self, f: &mut fmt::Formatter<W>) -> fmt::Result {
+        f.write_str(self.name())
+    }
+}
+
+impl FromStr for Kind {
+    type Err = anyhow::Error;
+
+    fn from_str(name: &str) -> anyhow::Result<Kind> {
+        Kind::ALL
+            .into_iter()
+            .find(|kind| kind.name() == name)
+            .context("a line is of no kind")
+    }
+}
+
+// What a case is about: the name of a code, and a kind.
+#[derive(Clone, Copy, PartialEq, Eq, PartialOrd, Ord)]
+pub struct Subject<'a> {
+    pub code: &'a str,
     pub kind: Kind,
-    pub states: usize,
-}
-
-// How many answers of one subject agreed.
-#[derive(Clone, Copy)]
-pub struct Tally {
-    pub cases: u32,
-    pub agreed: u32,
-}
-
-impl Tally {
-    pub const NONE: Tally = Tally {
-        cases: 0,
-        agreed: 0,
-    };
-
-    fn with(self, agrees: bool) -> Tally {
-        Tally {
-            cases: self.cases.saturating_add(1),
-            agreed: self.agreed.saturating_add(u32::from(agrees)),
-        }
-    }
-
-    pub(crate) fn and(self, more: Tally) -> Tally {
-        Tally {
-            cases: self.cases.saturating_add(more.cases),
-            agreed: self.agreed.saturating_add(more.agreed),
-        }
-    }
-
-    pub(crate) fn is_whole(self) -> bool {
-        self.cases == self.agreed
-    }
-}
-
-// The most matrices that stand, and their elements for k7.
-const WORK: usize = 131_072;
-
-const STATES: usize = 64;
-
-// The words of 4,096 rows for k7.
-const STORE: usize = 266_240;
-
-// Buffers for any frame.
-#[derive(Drop)]
-pub struct Desk {
-    work: Vec<Survivor>,
-    row: Vec<Survivor>,
-    store: Vec<u32>,
-    bits: Vec<u8>,
-}
-
-impl Desk {
-    pub(crate) fn new(heap: Global) -> Result<Desk, AllocError> {
-        let none = Survivor {
-            word: 0,
-            cost: 0,
-            length: 0,
-        };
-        Ok(Desk {
-            work: vec![in heap; none; WORK]?,
-            row: vec![in heap; none; STATES]?,
-            store: vec![in heap; 0u32; STORE]?,
-            bits: vec![in heap; 0u8; LIMIT]?,
-        })
-    }
-}
-
-fn kind_of(text: &str) -> anyhow::Result<Kind> {
-    match text {
-        "short" => Ok(Kind::Short),
-        "noisy" => Ok(Kind::Noisy),
-        "erased" => Ok(Kind::Erased),
-        "tied" => Ok(Kind::Tied),
-        "random" => Ok(Kind::Random),
-        "full" => Ok(Kind::Full),
-        _ => Err(anyhow!("a line is of no kind")),
-    }
-}
-
-fn named(code: &str) -> anyhow::Result<Code> {
-    match by_name(code) {
-        Ok(code) => Ok(code),
-        Err(_) => Err(anyhow!("a line names no code")),
-    }
 }
 
 // Runs the case on a line.
-pub(crate) fn run(heap: Global, desk: &mut Desk, line: &str) -> anyhow::Result<(Subject, Tally)> {
-    let fields: Vec<&str> = line.split(' ').collect(heap)?;
-    let [name, code, symbols, plans, answers] = fields.as_slice() else {
+pub(crate) fn run<'a>(
+    heap: Global,
+    desk: &mut Desk,
+    line: &'a str,
+) -> anyhow::Result<(Subject<'a>, Tally)> {
+    let fields: Vec<&'a str> = line.split(' ').collect(heap)?;
+    let [kind, code, symbols, plans, answers] = fields.as_slice() else {
         return Err(anyhow!("a line is no case"));
     };
-    let code = named(code)?;
     let subject = Subject {
-        kind: kind_of(name)?,
-        states: code.states(),
+        code,
+        kind: kind.parse::<Kind>()?,
     };
     let symbols = fields::symbols(heap, symbols)?;
-    let mut frame = Frame::new(code);
-    if !takes(&mut frame, symbols.as_slice(), plans, desk) {
-        return Ok((subject, Tally::NONE.with(false)));
+    desk.frame = Frame::new(fields::code(code)?);
+    if !takes(desk, symbols.as_slice(), plans) {
+        return Ok((subject, Tally::of(false)));
     }
-    let mut tally = Tally::NONE;
+    let mut tally = Tally::default();
     for answer in answers.split(',') {
-        tally = tally.with(agrees(heap, &frame, symbols.len(), answer, desk)?);
+        tally += Tally::of(agrees(heap, desk, answer)?);
     }
     Ok((subject, tally))
 }
 
 // Delivers the symbols under plans between commas, each as many as it has letters s.
-fn takes(frame: &mut Frame, symbols: &[u32], plans: &str, desk: &mut Desk) -> bool {
+fn takes(desk: &mut Desk, symbols: &[u32], plans: &str) -> bool {
     let mut rest = symbols;
     for plan in plans.split(',') {
-        let plan = fields::plan(plan);
-        let Some((now, later)) = rest.split_at_checked(fields::singles(plan)) else {
+        let plan = listed(plan).as_bytes();
+        let singles = plan.iter().filter(|letter| **letter == b's').count();
+        let Some((now, later)) = rest.split_at_checked(singles) else {
             return false;
         };
-        rest = later;
-        if frame
-            .take(
-                now,
-                plan,
-                desk.work.as_mut_slice(),
-                desk.row.as_mut_slice(),
-                desk.store.as_mut_slice(),
-            )
-            .is_err()
-        {
+        if desk.take(now, plan).is_err() {
             return false;
         }
+        rest = later;
     }
     rest.is_empty()
 }
 
 // Whether the frame answers STATE:COST:BITS, or STATE:absent.
-fn agrees(
-    heap: Global,
-    frame: &Frame,
-    steps: usize,
-    answer: &str,
-    desk: &mut Desk,
-) -> anyhow::Result<bool> {
+fn agrees(heap: Global, desk: &mut Desk, answer: &str) -> anyhow::Result<bool> {
     let parts: Vec<&str> = answer.split(':').collect(heap)?;
     match parts.as_slice() {
-        [state, "absent"] => {
-            let found = frame.decode(
-                state.parse::<usize>()?,
-                desk.store.as_slice(),
-                desk.bits.as_mut_slice(),
-            );
-            Ok(found == Err(Refusal::NoPath))
-        }
-        [state, cost, bits] => {
-            let found = frame.decode(
-                state.parse::<usize>()?,
-                desk.store.as_slice(),
-                desk.bits.as_mut_slice(),
-            );
-            let bits = fields::bits(heap, bits)?;
+        [state, "absent"] => Ok(desk.decode(state.parse::<usize>()?) == Err(Refusal::NoPath)),
+        [state, cost, path] => {
+            let found = desk.decode(state.parse::<usize>()?);
+            let path = bits(heap, path)?;
             Ok(
                 found == Ok(cost.parse::<u32>()?)
-                    && begins(desk.bits.as_slice(), steps, bits.as_slice()),
+                    && desk.bits.get(0..desk.frame.steps()) == Some(path.as_slice()),
             )
         }
         _ => Err(anyhow!("a line has no answer")),
-    }
-}
-
-// Whether the first bytes, so many, are these bits.
-fn begins(bytes: &[u8], steps: usize, bits: &[u8]) -> bool {
-    match bytes.get(0..steps) {
-        Some(first) => first == bits,
-        None => false,
     }
 }

@@ -4,83 +4,37 @@
 mod cases;
 mod fields;
 
-use cases::{Desk, Kind, Subject, Tally};
+use cases::{Kind, Subject};
+use frame::LIMIT;
+use frame_desk::Desk;
+use plan::BLOCK;
+use std::collections::BTreeMap;
 use std::io::Read;
+use vectors::{Tally, is_case};
 
 // More than the vectors have.
 const BYTES: u64 = 10_000_000;
-
-// The tallies of one code.
-#[derive(Clone, Copy)]
-struct Board {
-    short: Tally,
-    noisy: Tally,
-    erased: Tally,
-    tied: Tally,
-    random: Tally,
-    full: Tally,
-}
-
-impl Board {
-    const CLEAR: Board = Board {
-        short: Tally::NONE,
-        noisy: Tally::NONE,
-        erased: Tally::NONE,
-        tied: Tally::NONE,
-        random: Tally::NONE,
-        full: Tally::NONE,
-    };
-
-    fn with(self, kind: Kind, tally: Tally) -> Board {
-        let mut board = self;
-        match kind {
-            Kind::Short => board.short = self.short.and(tally),
-            Kind::Noisy => board.noisy = self.noisy.and(tally),
-            Kind::Erased => board.erased = self.erased.and(tally),
-            Kind::Tied => board.tied = self.tied.and(tally),
-            Kind::Random => board.random = self.random.and(tally),
-            Kind::Full => board.full = self.full.and(tally),
-        }
-        board
-    }
-
-    fn show(self, rt: &HostRuntime, code: &str) -> anyhow::Result<()> {
-        show(rt, code, "short frames", self.short)?;
-        show(rt, code, "noisy frames", self.noisy)?;
-        show(rt, code, "erased frames", self.erased)?;
-        show(rt, code, "tied frames", self.tied)?;
-        show(rt, code, "random frames", self.random)?;
-        show(rt, code, "full frames", self.full)
-    }
-}
-
-fn show(rt: &HostRuntime, code: &str, name: &str, tally: Tally) -> anyhow::Result<()> {
-    let Tally { cases, agreed } = tally;
-    println!(rt; "{code}, {name}: {agreed} of {cases} agree")?;
-    Ok(())
-}
 
 fn main(rt: HostRuntime) -> anyhow::Result<()> {
     let heap = rt.alloc();
     let mut input = String::new(heap);
     rt.stdin().take(BYTES).read_to_string(&mut input)?;
-    let mut desk = Desk::new(heap)?;
-    let mut small = Board::CLEAR;
-    let mut large = Board::CLEAR;
-    for line in input.as_str().lines() {
-        if line.is_empty() || line.starts_with('#') {
-            continue;
-        }
-        let (Subject { kind, states }, tally) = cases::run(heap, &mut desk, line)?;
+    // room for any frame of either code: as many matrices as a block has symbols, and a row for each symbol
+    let mut desk = Desk::new(heap, fields::code("k7")?, BLOCK, LIMIT, LIMIT)?;
+    let mut tallies = BTreeMap::new(heap);
+    for line in input.as_str().lines().filter(|line| is_case(line)) {
+        let (subject, tally) = cases::run(heap, &mut desk, line)?;
         if !tally.is_whole() {
             println!(rt; "differs: {line}")?;
         }
-        if states == 4 {
-            small = small.with(kind, tally);
-        } else {
-            large = large.with(kind, tally);
+        *tallies.entry(subject)?.or_insert(Tally::default()) += tally;
+    }
+    for code in ["k3", "k7"] {
+        for kind in Kind::ALL {
+            let subject = Subject { code, kind };
+            let tally = tallies.get(&subject).copied().unwrap_or_default();
+            println!(rt; "{code}, {kind} frames: {tally}")?;
         }
     }
-    small.show(&rt, "k3")?;
-    large.show(&rt, "k7")
+    Ok(())
 }

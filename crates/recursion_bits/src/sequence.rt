@@ -1,12 +1,14 @@
 // The sequence of nine stages: each new bit is the exclusive or of the bits nine and five before it.
 ghost use Rattle.std.specs.Prelude.{◌==◌};
 ghost use Rattle.recursion_bits.specs.Sequence.{sequence_entry};
-ghost use Rattle.std.proofs.Math.Logic.{inl, inr};
 ghost use Rattle.std.proofs.Common.{arith, rules};
 ghost use Rattle.std.proofs.lemmas.Bool.Decides.{nat_tests};
 
 use algebra_scalars::Bit;
 use recursion::Recursion;
+
+// the place of the newest bit
+const NEWEST: usize = 8;
 
 #[derive(Clone, Copy)]
 pub struct Sequence;
@@ -24,7 +26,7 @@ impl Recursion for Sequence {
 
     ghost positive = { Prim.search rules };
 
-    ghost outside = { unfold sequence_entry in λ r y i j. elim [ inl h ↦ Prim.grind (arith, nat_tests) | inr h ↦ Prim.grind (arith, nat_tests) ] };
+    ghost outside = { unfold sequence_entry in λ r y i j h. Prim.grind (arith, nat_tests) };
 
     ghost refused = { unfold sequence_entry in λ r y i j h. Prim.grind (arith, nat_tests) };
 
@@ -36,13 +38,12 @@ impl Recursion for Sequence {
         symbol == 0
     }
 
+    #[tactic(auto, using(std::proofs::lemmas::Bool::Decides::nat_tests), unfolding(crate::specs::Sequence::sequence_entry))]
     fn entry(&self, symbol: u32, i: usize, j: usize) -> Bit {
-        if symbol != 0 {
-            return Bit(false);
-        }
-        match j {
-            8 => Bit(i == 0 || i == 4),
-            _ => Bit(j < 8 && i == j + 1),
-        }
+        let is_one = match j {
+            NEWEST => i == 0 || i == 4,
+            _ => j < NEWEST && i == j + 1,
+        };
+        Bit(self.accepts(symbol) && is_one)
     }
 }

@@ -1,9 +1,9 @@
 -- What a list of questions comes to when one is answered yes everywhere, or no at a first place.
-use Rattle.std.proofs.Common.{◌≡◌, ℕ, zero, suc, ◌<◌, ◌≤◌, Bool, true, false, ltb, List, [], ◌∷◌, ◌++◌, Ok, Err, Result, sym, refl, ap, ◌∙◌, inl, inr, arith}
+use Rattle.std.proofs.Common.{◌≡◌, ℕ, zero, suc, ◌<◌, ◌≤◌, Bool, true, false, cond, ltb, List, [], ◌∷◌, ◌++◌, Ok, Err, Result, sym, refl, ap, ◌∙◌, inl, inr, arith}
 use Rattle.std.proofs.lemmas.Bool.{cases_lt, cases_eq}
 use Rattle.std.proofs.lemmas.Bool.Decides.{nat_tests}
 use Rattle.refusal.specs.declared.Refusal.{Refusal}
-use Rattle.refusal.specs.Questions.{Question, least, asked}
+use Rattle.refusal.specs.Questions.{Question, once, least, asked}
 
 -- no place is refused where each says yes
 pub least_none : (f : ℕ → Bool) (n : ℕ) → ((p : ℕ) → p < n → f p ≡ true) → least f n ≡ n
@@ -65,6 +65,12 @@ module _ {A : Type 0} (q : Question) (qs : List Question) (a : A) where
       let e = least_first q.test q.count p h fails each in
       let t : ltb (least q.test q.count) q.count ≡ true = grind (arith, nat_tests) in
       rw (t, e)
+
+-- one question, and those after it
+pub asked_once : {A : Type 0} (b : Bool) (r : Refusal) (qs : List Question) (a : A) → asked (once b r ∷ qs) a ≡ cond b (asked qs a) (Err r)
+unfolding least
+asked_once true r qs a = refl
+asked_once false r qs a = refl
 
 -- a question that was passed, and those after it
 module _ {A : Type 0} (q : Question) (qs : List Question) (a x : A) (passed : asked (q ∷ qs) a ≡ Ok x) where

@@ -36,7 +36,7 @@ pub enum Refusal {
 }
 
 impl Refusal {
-    // The number by which a refusal is known outside.
+    // The number by which a refusal is known outside, where it is two numbers and no enum: this one, and its place.
     pub fn number(self) -> u32
         ensures { result ≡ numbered self }
     {
@@ -73,8 +73,6 @@ impl Refusal {
 
 impl fmt::Display for Refusal {
     fn fmt<W: fmt::Write>(&self, f: &mut fmt::Formatter<W>) -> fmt::Result {
-        let number = self.number();
-        let place = self.place();
-        write!(f, "refused {number} at {place}")
+        write!(f, "refused {} at {}", self.number(), self.place())
     }
 }

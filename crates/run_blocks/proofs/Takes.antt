@@ -1,9 +1,8 @@
 -- A fresh run from 33 ones answers the questions of the check by blocks, and its places after a take give the check.
-use Rattle.std.proofs.Common.{◌≡◌, ℕ, zero, suc, ◌<◌, true, false, not, List, [], length, take, replicate, Ok, Err, Result, sym, refl, ap, ◌∙◌, ap₂, arith}
+use Rattle.std.proofs.Common.{◌≡◌, ℕ, ◌<◌, true, false, not, List, [], length, take, replicate, Ok, Result, sym, refl, ap, ◌∙◌, ap₂, arith}
 use lib.ListN.{length-replicate}
-use Rattle.std.proofs.lemmas.List.{length-take-le}
-use Rattle.algebra.specs.Sums.{at}
-use Rattle.algebra.proofs.Places.{at_take}
+use Rattle.std.proofs.lemmas.List.{length-take-le, get_or-replicate}
+use Rattle.algebra.proofs.Places.{at_get, at_take}
 use Rattle.algebra_scalars.specs.Bits.{bit_ops}
 use Rattle.algebra_scalars.specs.declared.bit.Bit.{Bit}
 use Rattle.algebra_scalars.specs.contracts.bit.BitAlgebra.TheImpl.{ghosts as bits}
@@ -14,7 +13,7 @@ use Rattle.plan.specs.Asks.{joins}
 use Rattle.recursion.proofs.Steps.{steps_cong}
 use Rattle.recursion_bits.specs.Register.{register_entry}
 use Rattle.refusal.specs.Questions.{asked}
-use Rattle.refusal.proofs.Questions.{asked_first, asked_rest}
+use Rattle.refusal.proofs.Questions.{asked_rest}
 use Rattle.refusal.specs.declared.Refusal.{Refusal}
 use Rattle.run_check.specs.Check.{run, weigh, check_value}
 use Rattle.run_blocks.specs.Blocks.{place_of, register, ones, block_questions, checked}
@@ -25,10 +24,6 @@ abbrev pub ones_list : List Bit
 ones_list = replicate 33 (record { 0 = true })
 
 module _ (ys plan : List ℕ) (n k : ℕ) where
-  -- a take that is refused is refused by the same question
-  pub refused : (e : Refusal) → Err e ≡ took ones register ys plan n k → Err e ≡ asked (block_questions ys plan n k) (checked ys plan)
-  refused e answer = sym (asked_first [] (length ys, joins plan) (length ys, joins plan) (checked ys plan) (block_questions ys plan n k) e (sym answer))
-
   same_pair : (x y : ℕ × ℕ) → ◌≡◌ {A = Result (ℕ × ℕ) Refusal} (Ok x) (Ok y) → x.1 ≡ y.1
   same_pair x y e = let p : x ≡ y = cc in ap (λ (z : ℕ × ℕ). z.1) p
 
@@ -42,10 +37,7 @@ module _ (ys plan : List ℕ) (n k : ℕ) where
       ∙ sym (asked_rest [] (length ys, joins plan) x (checked ys plan) (block_questions ys plan n k) (sym answer))
 
 ones_at : (n j : ℕ) → j < n → place_of (replicate n (record { 0 = true })) j ≡ true
-unfolding at
-ones_at zero j h = absurd (omega arith)
-ones_at (suc n) zero h = refl
-ones_at (suc n) (suc j) h = ones_at n j (omega arith)
+ones_at n j h = sym (at_get false (λ (b : Bit). b.0) (replicate n (record { 0 = true })) j (record { 0 = false }) refl) ∙ ap (λ (b : Bit). b.0) (get_or-replicate n j _ _ h)
 
 -- each place after the single steps is that of the check's run
 place_is : (ys plan : List ℕ) (was is : Run Bit) (work' : List Bit) → was.size ≡ 33 → was.state.now ≡ ones_list → Stepped bits register ys plan was is work'

@@ -1,6 +1,7 @@
 -- Places weigh what the first of them weigh and the last one more, so n places weigh less than 2^n.
-use Rattle.std.proofs.Common.{◌≡◌, ℕ, zero, suc, ◌+◌, ◌^◌, ◌<◌, ◌≤◌, Bool, true, false, cond, not, List, [], ◌∷◌, get_or, sym, refl, ap, ◌∙◌, ap₂, arith, pow_mono}
-use Rattle.algebra.specs.Sums.{at}
+use Rattle.std.proofs.Common.{◌≡◌, ℕ, zero, suc, ◌+◌, ◌*◌, ◌%◌, ◌^◌, ◌<◌, ◌≤◌, Bool, true, false, cond, not, List, get_or, sym, refl, ap, ◌∙◌, ap₂, arith, pow_mono}
+use mir.Val.{bool_byte}
+use Rattle.algebra.proofs.Places.{at_get}
 use Rattle.algebra_scalars.specs.declared.bit.Bit.{Bit}
 use Rattle.run_check.specs.Check.{weigh}
 use Rattle.run_blocks.specs.Blocks.{place_of}
@@ -30,14 +31,17 @@ pub weigh_fits : (n : ℕ) (f : ℕ → Bool) → n ≤ 32 → weigh n f < 2 ^ 3
 weigh_fits n f h = let big : 2 ^ n ≤ 2 ^ 32 = pow_mono {i = n} {j = 32} h in omega (arith, weigh_lt n f, big)
 
 read_place : (bits : List Bit) (k : ℕ) → (get_or bits k (record { 0 = false })).0 ≡ place_of bits k
-unfolding at
-read_place [] k = refl
-read_place (b ∷ bits) zero = refl
-read_place (b ∷ bits) (suc k) = read_place bits k
+read_place bits k = at_get false (λ b. b.0) bits k _ refl
 
--- the inverted places with one more, as it was read
-pub inverted_more : (bits : List Bit) (n v w : ℕ) → v ≡ weigh n (λ k. not (place_of bits k)) → w ≡ cond (not (get_or bits n (record { 0 = false })).0) (2 ^ n) 0
-    → v + w ≡ weigh (n + 1) (λ k. not (place_of bits k))
-inverted_more bits n v w before last =
-    ap₂ (λ (x y : ℕ). x + y) before (last ∙ ap (λ t. cond (not t) (2 ^ n) 0) (read_place bits n))
+-- a bit that is shifted up to its place
+shifted_is : (t : Bool) (n : ℕ) → n < 32 → (bool_byte t * 2 ^ n) % 2 ^ 32 ≡ cond t (2 ^ n) 0
+shifted_is true n h = let big : 2 ^ n ≤ 2 ^ 31 = pow_mono {i = n} {j = 31} (omega arith) in omega (arith, big)
+shifted_is false n h = omega arith
+
+-- the inverted places with one more, as it was read and shifted
+pub inverted_more : (bits : List Bit) (n v b : ℕ) → n < 32 → v ≡ weigh n (λ k. not (place_of bits k)) → b ≡ bool_byte (not (get_or bits n (record { 0 = false })).0)
+    → v + (b * 2 ^ n) % 2 ^ 32 ≡ weigh (n + 1) (λ k. not (place_of bits k))
+inverted_more bits n v b h before last =
+    ap₂ (λ (x y : ℕ). x + (y * 2 ^ n) % 2 ^ 32) before (last ∙ ap (λ t. bool_byte (not t)) (read_place bits n))
+    ∙ ap (λ (x : ℕ). weigh n (λ k. not (place_of bits k)) + x) (shifted_is (not (place_of bits n)) n h)
     ∙ sym (weigh_more n (λ k. not (place_of bits k)))

@@ -24,14 +24,6 @@ pub struct Checked {
     pub joins: usize,
 }
 
-// What a place weighs: 2^place where its bit is 1.
-fn weight(bit: bool, place: usize) -> u32
-    requires { place < 32 }
-    ensures { result ≡ (if bit then 2 ^ place else 0) }
-{
-    if bit { 1 << place } else { 0 }
-}
-
 // The places as a number, each inverted.
 fn inverted(places: &[Bit]) -> u32
     requires { length places.now ≤ 32 }
@@ -39,7 +31,7 @@ fn inverted(places: &[Bit]) -> u32
 {
     let mut value = 0;
     for (place, bit) in places.iter().enumerate() {
-        value += weight(!bit.0, place);
+        value += u32::from(!bit.0) << place;
     }
     value
 }

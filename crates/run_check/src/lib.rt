@@ -19,19 +19,15 @@ const ONES: u32 = 0xFFFF_FFFF;
 fn ask(bits: &[u8]) -> Result<(), Refusal>
     ensures { result ≡ asked (bit_questions bits.now) tt }
 {
-    for (place, bit) in bits.iter().enumerate() {
-        if *bit > 1 {
-            return Err(Refusal::Symbol { place });
-        }
-    }
-    if bits.len() <= LIMIT {
-        Ok(())
-    } else {
-        Err(Refusal::Limit)
+    match bits.iter().position(|bit| *bit > 1) {
+        Some(place) => Err(Refusal::Symbol { place }),
+        None if bits.len() > LIMIT => Err(Refusal::Limit),
+        None => Ok(()),
     }
 }
 
 // The register after one more bit.
+#[tactic(auto, unfolding(crate::specs::Shift::shifted))]
 fn shift(register: u32, bit: u8) -> u32
     ensures { result ≡ shifted register bit }
 {
@@ -46,11 +42,8 @@ fn shift(register: u32, bit: u8) -> u32
 fn shift_all(bits: &[u8]) -> u32
     ensures { result ≡ shifts 0xFFFFFFFF bits.now }
 {
-    let mut register = ONES;
-    for bit in bits {
-        register = shift(register, *bit);
-    }
-    register
+    bits.iter()
+        .fold(ONES, |register, bit| shift(register, *bit))
 }
 
 // The check register after the bits, before inversion: the run from 33 ones, place k of the

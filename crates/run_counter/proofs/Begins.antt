@@ -1,12 +1,8 @@
--- A counter that was laid over a buffer with an element for each state begins to count, and else nothing has changed; whether it
--- was made tells which.
-use Rattle.std.proofs.Common.{◌≡◌, ℕ, ◌<◌, ◌≤◌, true, false, ◌&&◌, ltb, leb, List, [], ◌∷◌, length, drop, Ok, Err, Result, sym, refl, ap, ◌∙◌, inl, inr, arith}
+-- Whether a counter was made tells whether it was laid over a buffer with an element for each state.
+use Rattle.std.proofs.Common.{◌≡◌, ℕ, ◌<◌, ◌≤◌, true, false, ◌&&◌, ltb, leb, List, [], ◌∷◌, length, Ok, Err, Result, sym, ◌∙◌, inl, inr, arith}
 use Rattle.std.proofs.lemmas.Bool.{cases_lt, le-leb, lt-leb}
 use Rattle.std.proofs.lemmas.Bool.Decides.{nat_tests}
-use Rattle.algebra.specs.Sums.{at}
-use Rattle.algebra_scalars.specs.Counts.{residue_of}
 use Rattle.algebra_scalars.specs.declared.count.Count.{Count}
-use Rattle.algebra_scalars.specs.contracts.count.CountAlgebra.TheImpl.{ghosts as counts}
 use Rattle.code.specs.declared.description.Code.{Code}
 use Rattle.code.specs.Codes.{states}
 use Rattle.code.proofs.Sizes.{states_positive}
@@ -14,40 +10,8 @@ use Rattle.refusal.specs.declared.Refusal.{Refusal}
 use Rattle.refusal.specs.declared.Refusal.TheVariants.{Memory}
 use Rattle.refusal.specs.Questions.{once, asked}
 use Rattle.refusal.proofs.Questions.{asked_yes, asked_no}
-use Rattle.engine.specs.Runs.{Made}
-use Rattle.engine.specs.declared.run.Run.{Run}
 use Rattle.run_counter.specs.declared.Counter.{Counter}
-use Rattle.run_counter.specs.Counter.{start_of, Counts, Laid, made, MadeRoom}
-
-module _ (c : Code) (buffer : List Count) (was is : Run Count)
-    (long : length was.state.now ≡ length buffer)
-    (starts : states c ≤ length buffer → (s : ℕ) → s < states c → at (residue_of 0) counts.mean was.state.now s ≡ start_of s)
-    (rest : drop (states c) was.state.now ≡ drop (states c) buffer)
-    (short : length buffer < states c → was.state.now ≡ buffer)
-    (none : was.size ≡ 0) (no-symbols : was.taken ≡ 0) where
-  pub laid : (o : Result Unit Refusal) → Made counts (states c) was o is → Laid c buffer (record { trellis = record { code = c }; run = is })
-  laid (Ok x) done = record {
-    of = refl;
-    begins = λ h. record {
-      of = refl;
-      holds = record {
-        sized = done.2.sized;
-        counted = done.2.counted;
-        fits = done.2.fits;
-        means = λ j l. done.2.means j l ∙ starts h j (omega (arith, done.2.sized));
-      };
-    };
-    short = λ h. absurd (omega (arith, done.0));
-    rest = ap (drop (states c)) done.1 ∙ rest;
-  }
-  laid (Err e) done =
-      let same = done.2 in
-      record {
-        of = refl;
-        begins = λ h. absurd (omega (arith, done.0));
-        short = λ h. (ap (λ r. r.size) same ∙ none, ap (λ r. r.taken) same ∙ no-symbols, ap (λ r. r.state.now) same ∙ short h);
-        rest = ap (λ r. drop (states c) r.state.now) same ∙ rest;
-      }
+use Rattle.run_counter.specs.Counter.{Counts, Laid, made, MadeRoom}
 
 -- whether a counter was made
 module _ (k : Counter) where

@@ -28,6 +28,7 @@ pub struct Counter<'a> {
 
 // Writes 1 at the start state and 0 at the others, or nothing where there is not an element for each.
 fn begin(buffer: &mut [Count], states: usize)
+    requires { 1 ≤ states }
     ensures starts { states ≤ length buffer.old → (s : ℕ) → s < states → at (residue_of 0) counts.mean buffer.new s ≡ start_of s }
     ensures rest { drop states buffer.new ≡ drop states buffer.old }
     ensures short { length buffer.old < states → buffer.new ≡ buffer.old }
@@ -35,9 +36,8 @@ fn begin(buffer: &mut [Count], states: usize)
     if buffer.len() < states {
         return;
     }
-    for state in 0..states {
-        buffer[state] = if state == START { Count(1) } else { Count(0) };
-    }
+    buffer[..states].fill(Count(0));
+    buffer[START] = Count(1);
 }
 
 // A count, absent where it is 0.
@@ -70,10 +70,7 @@ impl<'a> Counter<'a> {
         ensures answer { result ≡ made self.now }
         ensures room { MadeRoom self.now result }
     {
-        match self.run.read(0) {
-            Ok(_) => Ok(()),
-            Err(_) => Err(Refusal::Memory),
-        }
+        self.run.read(0).map(|_| ()).map_err(|_| Refusal::Memory)
     }
 
     // Takes symbols under a plan, and answers how many and how many joins that made. The questions are those
@@ -94,8 +91,7 @@ impl<'a> Counter<'a> {
         ensures counts { TakeCounts symbols.now plan.now (length work.old) (length row.old)
             self.old result self.new }
     {
-        let trellis = self.trellis;
-        self.run.take(&trellis, symbols, plan, work, row)
+        self.run.take(&self.trellis, symbols, plan, work, row)
     }
 
     // The number of admitted paths from state 0 to a state over all symbols taken, modulo 4,294,967,296;

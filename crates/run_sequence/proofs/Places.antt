@@ -1,17 +1,14 @@
 -- What is read at a place, and what two states that agree from one place on agree on.
-use Rattle.std.proofs.Common.{◌≡◌, ℕ, zero, suc, ◌+◌, ◌-◌, ◌≤◌, Bool, true, false, List, [], ◌∷◌, get_or, drop, sym, refl, ap, ◌∙◌, arith}
+use Rattle.std.proofs.Common.{◌≡◌, ℕ, ◌+◌, ◌-◌, ◌≤◌, Bool, true, false, List, get_or, drop, sym, refl, ap, ◌∙◌, arith}
 use mir.Val.{bool_byte}
 use Rattle.std.proofs.lemmas.List.{drop-drop}
-use Rattle.algebra.specs.Sums.{at}
+use Rattle.algebra.proofs.Places.{at_get}
 use Rattle.algebra_scalars.specs.Bits.{number}
 use Rattle.algebra_scalars.specs.declared.bit.Bit.{Bit}
 use Rattle.run_sequence.specs.Sequence.{bit_at}
 
 pub read_place : (state : List Bit) (j : ℕ) → (get_or state j (record { 0 = false })).0 ≡ bit_at state j
-unfolding at
-read_place [] j = refl
-read_place (b ∷ state) zero = refl
-read_place (b ∷ state) (suc j) = read_place state j
+read_place state j = at_get false (λ b. b.0) state j _ refl
 
 pub byte_number : (b : Bool) → bool_byte b ≡ number b
 byte_number true = refl

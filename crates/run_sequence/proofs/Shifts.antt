@@ -1,38 +1,35 @@
--- Moving the bits down one by one and writing the newest is a single step.
-use Rattle.std.proofs.Common.{◌≡◌, ℕ, suc, ◌+◌, ◌<◌, ◌≤◌, false, List, length, get_or, drop, set, sym, ap, ◌∙◌, inl, inr, arith}
-use Rattle.std.proofs.lemmas.List.{drop-set-lt}
+-- Copying the bits one place down and writing the newest is a single step.
+use Rattle.std.proofs.Common.{◌≡◌, ℕ, suc, ◌+◌, ◌<◌, ◌≤◌, false, List, length, take, drop, set, sym, ap, ◌∙◌, inl, inr, arith, length-drop}
+use Rattle.std.specs.List.{copy_within}
+use Rattle.std.proofs.lemmas.List.{drop-set-lt, length-take-le}
+use Rattle.std.proofs.lemmas.List.Edits.{drop-paste}
 use Rattle.std.proofs.lemmas.Bool.{cases_eq}
-use Rattle.algebra.proofs.Places.{at_set_same, at_set_other, at_same_rest}
+use Rattle.algebra.proofs.Places.{at_set_same, at_set_other, at_append_left, at_part}
 use Rattle.algebra_scalars.specs.Bits.{xor, bit_ops}
 use Rattle.algebra_scalars.specs.declared.bit.Bit.{Bit}
 use Rattle.recursion.specs.Steps.{stepped}
 use Rattle.recursion_bits.specs.Sequence.{sequence_entry}
 use Rattle.run_sequence.specs.Sequence.{bit_at}
-use Rattle.run_sequence.proofs.Places.{read_place, same_rest}
+use Rattle.run_sequence.proofs.Places.{same_rest}
 use Rattle.run_sequence.proofs.Columns.{step_down, step_newest}
 
--- the places below k hold what stood one place up, and from k on nothing has changed
-abbrev pub Down : List Bit → List Bit → ℕ → Type 0
-Down start state k = ((j : ℕ) → j < k → bit_at state j ≡ bit_at start (suc j)) × (drop k state ≡ drop k start)
+module _ (start state : List Bit) (long : 9 ≤ length start) (copied : state ≡ copy_within start 1 9 0) where
+  eight : 8 ≤ length (drop 1 start)
+  eight = omega (arith, length-drop 1 start)
 
-module _ (start state : List Bit) (k : ℕ) (down : Down start state k) where
-  -- one place more
-  pub down_more : k < length state → Down start (set state k (get_or state (k + 1) (record { 0 = false }))) (k + 1)
-  down_more h = (places, drop-set-lt (k + 1) state k _ (omega arith) ∙ same_rest k (k + 1) state start (omega arith) down.1)
-    where
-      places : (j : ℕ) → j < k + 1 → bit_at (set state k (get_or state (k + 1) (record { 0 = false }))) j ≡ bit_at start (suc j)
-      places j l =
-          elim (cases_eq j k) [
-            | inl e ↦
-                let is : k + 1 ≡ suc j = omega arith in
-                ap (bit_at _) e ∙ at_set_same false (λ b. b.0) state k _ h ∙ read_place state (k + 1) ∙ at_same_rest false (λ b. b.0) k state start (k + 1) (omega arith) down.1 ∙ ap (bit_at start) is
-            | inr ne ↦ at_set_other false (λ b. b.0) state k j _ ne ∙ down.0 j (omega arith)
-          ]
+  -- each place below the newest holds what stood one place up
+  moved : (j : ℕ) → j < 8 → bit_at state j ≡ bit_at start (suc j)
+  moved j h =
+      let whole = length-take-le 8 (drop 1 start) eight in
+      let up : 1 + j ≡ suc j = omega arith in
+      ap (λ xs. bit_at xs j) copied ∙ at_append_left false (λ b. b.0) (take 8 (drop 1 start)) (drop 8 start) j (omega arith) ∙ at_part false (λ b. b.0) 1 8 start j h ∙ ap (bit_at start) up
 
-  -- all eight, and the newest
-  pub down_done : (newest : Bit) → k ≡ 8 → 9 ≤ length state → newest.0 ≡ xor (bit_at start 0) (bit_at start 4) → (j : ℕ) → j < 9 → bit_at (set state 8 newest) j ≡ stepped bit_ops 9 (bit_at start) (sequence_entry 0) j
-  down_done newest whole long is j h =
+  pub rest_kept : (newest : Bit) → drop 9 (set state 8 newest) ≡ drop 9 start
+  rest_kept newest = drop-set-lt 9 state 8 newest (omega arith) ∙ same_rest 8 9 state start (omega arith) (ap (drop 8) copied ∙ drop-paste start 0 (drop 1 start) 8 (omega arith) eight)
+
+  pub step_made : (newest : Bit) → 9 ≤ length state → newest.0 ≡ xor (bit_at start 0) (bit_at start 4) → (j : ℕ) → j < 9 → bit_at (set state 8 newest) j ≡ stepped bit_ops 9 (bit_at start) (sequence_entry 0) j
+  step_made newest same is j h =
       elim (cases_eq j 8) [
         | inl e ↦ ap (bit_at _) e ∙ at_set_same false (λ b. b.0) state 8 newest (omega arith) ∙ is ∙ sym (step_newest (bit_at start)) ∙ ap (stepped bit_ops 9 (bit_at start) (sequence_entry 0)) (sym e)
-        | inr ne ↦ at_set_other false (λ b. b.0) state 8 j newest ne ∙ down.0 j (omega arith) ∙ sym (step_down (bit_at start) j (omega arith))
+        | inr ne ↦ at_set_other false (λ b. b.0) state 8 j newest ne ∙ moved j (omega arith) ∙ sym (step_down (bit_at start) j (omega arith))
       ]

@@ -22,6 +22,7 @@ const STAGES: usize = 9;
 const NEWEST: usize = 8;
 
 // Whether so many steps may be made on a state of so many elements.
+#[tactic(auto, using(std::proofs::lemmas::Bool::Decides::nat_tests), unfolding(refusal::specs::Questions::least))]
 fn ask(steps: usize, elements: usize) -> Result<(), Refusal>
     ensures { result ≡ asked (sequence_questions steps elements) tt }
 {
@@ -41,9 +42,7 @@ fn shift(state: &mut [Bit])
     ensures rest { drop 9 state.new ≡ drop 9 state.old }
 {
     let newest = state[0].sum(state[4]);
-    for k in 0..NEWEST {
-        state[k] = state[k + 1];
-    }
+    state.copy_within(1..STAGES, 0);
     state[NEWEST] = newest;
 }
 

@@ -1,12 +1,14 @@
 // Decodes that are refused: states, buffers, and stores that are not a frame's.
-use crate::desk::{BYTE, MARK, WORD, is_all_bytes, k3, k7};
+use crate::marks::{is_marked, k3, k7};
 use frame::Frame;
+use frame_desk::{BYTE, MARK, WORD};
 use refusal::Refusal;
 use std::process::Abort;
 use std::test::Fail;
 
 // A frame of the symbols 119 112 7 under the plan sassja, in rows of 1 and 2 steps; the best path to state 0 is 1 0 0,
-// at a cost of 7.
+// at a cost of 7. The buffers are arrays and no desk: the tests cut the store and write to places of it, which asks for
+// its length.
 fn framed(rt: &impl Abort, store: &mut [u32; 10]) -> Result<Frame, Fail> {
     let mut frame = Frame::new(k3()?);
     let mut work = [MARK; 32];
@@ -22,7 +24,7 @@ fn framed(rt: &impl Abort, store: &mut [u32; 10]) -> Result<Frame, Fail> {
 fn refuses(rt: &impl Abort, frame: &Frame, state: usize, store: &[u32], refusal: Refusal) {
     let mut bits = [BYTE; 4];
     assert_eq!(rt; frame.decode(state, store, &mut bits), Err(refusal));
-    assert!(rt; is_all_bytes(&bits));
+    assert!(rt; is_marked(&bits));
 }
 
 #[test]

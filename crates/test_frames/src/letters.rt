@@ -1,36 +1,26 @@
 // Every plan, found among all words of letters.
 use plan::read;
 use std::alloc::{AllocError, Global};
+use std::iter::successors;
 use std::test::Fail;
 
 // The word of so many letters s, j and a that has this number: its digits to base 3.
 fn spell(heap: Global, number: u32, letters: usize) -> Result<Vec<u8>, AllocError> {
-    let mut word = Vec::new(heap);
-    let mut rest = number;
-    for _ in 0..letters {
-        word.push(match rest % 3 {
+    successors(Some(number), |rest| Some(*rest / 3))
+        .map(|rest| match rest % 3 {
             0 => b's',
             1 => b'j',
             _ => b'a',
-        })?;
-        rest /= 3;
-    }
-    Ok(word)
+        })
+        .take(letters)
+        .collect(heap)
 }
 
-// How many words of two letters for each symbol there are.
-fn words(symbols: usize) -> u32 {
-    let mut words = 1u32;
-    for _ in 0..symbols {
-        words = words.wrapping_mul(9);
-    }
-    words
-}
-
-// Every plan of so many symbols. Each symbol brings a letter s, and a letter j or a takes its matrix away.
+// Every plan of so many symbols. Each symbol brings a letter s, and a letter j or a takes its matrix away: so there are
+// two letters for each, and nine words of these.
 pub(crate) fn every_plan(heap: Global, symbols: usize) -> Result<Vec<Vec<u8>>, Fail> {
     let mut plans = Vec::new(heap);
-    for number in 0..words(symbols) {
+    for number in 0..9u32.wrapping_pow(u32::try_from(symbols)?) {
         let word = spell(heap, number, symbols.wrapping_mul(2))?;
         if read(word.as_slice(), symbols).is_ok() {
             plans.push(word)?;

@@ -6,11 +6,11 @@ mod alike;
 #[cfg(test)]
 mod damage;
 #[cfg(test)]
-mod desk;
-#[cfg(test)]
 mod letters;
 #[cfg(test)]
 mod limits;
+#[cfg(test)]
+mod marks;
 #[cfg(test)]
 mod search;
 #[cfg(test)]

@@ -1,22 +1,27 @@
-// The best paths by a direct search over all paths, which shares nothing with the library.
+// The best paths by a direct search over all paths, which shares nothing with the library: so it has costs and branches
+// of its own.
 use std::alloc::{AllocError, Global};
+use std::iter::successors;
 use std::test::Fail;
 
-// A code: the bits of a state, and the generators.
+// A code: its name in the library, the bits of a state, and the generators.
 #[derive(Clone, Copy)]
 pub(crate) struct Encoder {
+    pub(crate) name: &'static str,
     memory: u32,
     first: u32,
     second: u32,
 }
 
 pub(crate) const K3: Encoder = Encoder {
+    name: "k3",
     memory: 2,
     first: 0o7,
     second: 0o5,
 };
 
 pub(crate) const K7: Encoder = Encoder {
+    name: "k7",
     memory: 6,
     first: 0o171,
     second: 0o133,
@@ -59,30 +64,21 @@ impl Encoder {
 
     // Follows the path whose input bits are those of a number, the earliest lowest.
     fn follow(self, path: u32, symbols: &[u32]) -> Standing {
-        let mut standing = Standing { state: 0, cost: 0 };
-        let mut rest = path;
-        for symbol in symbols {
-            standing = self.step(standing, rest % 2, *symbol);
-            rest /= 2;
-        }
-        standing
+        symbols
+            .iter()
+            .zip(successors(Some(path), |rest| Some(*rest / 2)))
+            .fold(Standing { state: 0, cost: 0 }, |standing, (symbol, rest)| {
+                self.step(standing, rest % 2, *symbol)
+            })
     }
 }
 
-// A cheapest path.
-#[derive(Clone, Copy, PartialEq, Eq, Debug)]
+// A cheapest path. Of two paths the one with the 0 at the latest bit where they differ has the lower number, so the
+// better comes first in the derived order.
+#[derive(Clone, Copy, PartialEq, Eq, PartialOrd, Ord, Debug)]
 pub(crate) struct Best {
     pub(crate) cost: u32,
     pub(crate) path: u32,
-}
-
-// The better of what was found and a path with a higher number. Of two paths the one with the 0 at the latest bit where
-// they differ has the lower number, so only a lower cost is better.
-fn better(found: Option<Best>, cost: u32, path: u32) -> Option<Best> {
-    match found {
-        Some(best) if best.cost <= cost => Some(best),
-        _ => Some(Best { cost, path }),
-    }
 }
 
 // The best path to each state.
@@ -90,19 +86,13 @@ pub(crate) fn search(
     heap: Global,
     encoder: Encoder,
     symbols: &[u32],
-) -> Result<Vec<Option<Best>>, AllocError> {
-    let mut found = Vec::new(heap);
-    for _ in 0..encoder.states() {
-        found.push(None)?;
-    }
-    let mut paths = 1u32;
-    for _ in symbols {
-        paths = paths.wrapping_mul(2);
-    }
-    for path in 0..paths {
+) -> Result<Vec<Option<Best>>, Fail> {
+    let mut found: Vec<Option<Best>> = vec![in heap; None; encoder.states() as usize]?;
+    for path in 0..2u32.wrapping_pow(u32::try_from(symbols.len())?) {
         let Standing { state, cost } = encoder.follow(path, symbols);
+        let best = Best { cost, path };
         if let Some(place) = found.get_mut(state as usize) {
-            *place = better(*place, cost, path);
+            *place = Some(place.map_or(best, |found| found.min(best)));
         }
     }
     Ok(found)
@@ -110,13 +100,10 @@ pub(crate) fn search(
 
 // The input bits of a path of so many steps.
 pub(crate) fn input_bits(heap: Global, path: u32, steps: usize) -> Result<Vec<u8>, AllocError> {
-    let mut bits = Vec::new(heap);
-    let mut rest = path;
-    for _ in 0..steps {
-        bits.push((rest % 2) as u8)?;
-        rest /= 2;
-    }
-    Ok(bits)
+    successors(Some(path), |rest| Some(*rest / 2))
+        .map(|rest| (rest % 2) as u8)
+        .take(steps)
+        .collect(heap)
 }
 
 // The search itself, on a list whose answer is known.

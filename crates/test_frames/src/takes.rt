@@ -1,25 +1,24 @@
 // Takes that are refused: the reason, its place, and that nothing is written.
-use crate::desk::{BYTE, MARK, WORD, is_all_words, is_marked, k3};
+use crate::marks::{is_untouched, k3};
 use frame::Frame;
+use frame_desk::{Desk, MARK, WORD};
+use plan_letters::nested;
 use refusal::Refusal;
-use std::alloc::Global;
 use std::process::Abort;
 use std::test::Fail;
 
 // A fresh frame refuses, and stays fresh. Work area, row and store have room for 3 matrices, 4 states and 3 rows.
-fn refuses(rt: &impl Abort, symbols: &[u32], plan: &[u8], refusal: Refusal) -> Result<(), Fail> {
-    let mut frame = Frame::new(k3()?);
-    let mut work = [MARK; 48];
-    let mut row = [MARK; 4];
-    let mut store = [WORD; 15];
-    assert_eq!(rt;
-        frame.take(symbols, plan, &mut work, &mut row, &mut store),
-        Err(refusal)
-    );
-    assert!(rt; is_marked(&work) && is_marked(&row));
-    assert!(rt; is_all_words(&store));
-    assert_eq!(rt; frame.decode(0, &[], &mut []), Ok(0));
-    assert_eq!(rt; frame.decode(2, &[], &mut []), Err(Refusal::NoPath));
+fn refuses(
+    rt: &(impl Abort + AllocGlobal),
+    symbols: &[u32],
+    plan: &[u8],
+    refusal: Refusal,
+) -> Result<(), Fail> {
+    let mut desk = Desk::new(rt.alloc(), k3()?, 3, 3, 0)?;
+    assert_eq!(rt; desk.take(symbols, plan), Err(refusal));
+    assert!(rt; is_untouched(&desk));
+    assert_eq!(rt; desk.frame.decode(0, &[], &mut []), Ok(0));
+    assert_eq!(rt; desk.frame.decode(2, &[], &mut []), Err(Refusal::NoPath));
     Ok(())
 }
 
@@ -50,11 +49,7 @@ fn unfinished(rt: HostRuntime) -> Result<(), Fail> {
 // A block of 33 symbols; the question comes before those of the symbols and of the memory.
 #[test]
 fn blocks(rt: HostRuntime) -> Result<(), Fail> {
-    let mut plan = vec![in rt.alloc(); b's'; 33]?;
-    for _ in 0..32 {
-        plan.push(b'j')?;
-    }
-    plan.push(b'a')?;
+    let plan = nested(rt.alloc(), 33, 32)?;
     refuses(
         &rt,
         &[999; 33],
@@ -96,50 +91,43 @@ fn order_of_the_questions(rt: HostRuntime) -> Result<(), Fail> {
 
 // Three symbols in two blocks, with buffers of these lengths.
 fn asks_for(
-    rt: &impl Abort,
-    heap: Global,
+    rt: &(impl Abort + AllocGlobal),
     work: usize,
     row: usize,
     store: usize,
     answer: Result<(usize, usize), Refusal>,
 ) -> Result<(), Fail> {
-    let mut frame = Frame::new(k3()?);
-    let mut work = vec![in heap; MARK; work]?;
-    let mut row = vec![in heap; MARK; row]?;
-    let mut store = vec![in heap; WORD; store]?;
+    let heap = rt.alloc();
+    let mut desk = Desk {
+        frame: Frame::new(k3()?),
+        work: vec![in heap; MARK; work]?,
+        row: vec![in heap; MARK; row]?,
+        store: vec![in heap; WORD; store]?,
+        bits: Vec::new(heap),
+    };
     let accepted = answer.is_ok();
-    assert_eq!(rt;
-        frame.take(
-            &[119, 112, 7],
-            b"ssjasa",
-            work.as_mut_slice(),
-            row.as_mut_slice(),
-            store.as_mut_slice(),
-        ),
-        answer
-    );
-    assert!(rt; accepted || is_marked(work.as_slice()) && is_marked(row.as_slice()));
-    assert!(rt; accepted || is_all_words(store.as_slice()));
+    assert_eq!(rt; desk.take(&[119, 112, 7], b"ssjasa"), answer);
+    assert!(rt; accepted || is_untouched(&desk));
     Ok(())
 }
 
 #[test]
 fn short_buffers(rt: HostRuntime) -> Result<(), Fail> {
-    asks_for(&rt, rt.alloc(), 32, 4, 10, Ok((3, 1)))?;
-    asks_for(&rt, rt.alloc(), 31, 4, 10, Err(Refusal::Memory))?;
-    asks_for(&rt, rt.alloc(), 32, 3, 10, Err(Refusal::Memory))?;
-    asks_for(&rt, rt.alloc(), 32, 4, 9, Err(Refusal::Memory))
+    asks_for(&rt, 32, 4, 10, Ok((3, 1)))?;
+    asks_for(&rt, 31, 4, 10, Err(Refusal::Memory))?;
+    asks_for(&rt, 32, 3, 10, Err(Refusal::Memory))?;
+    asks_for(&rt, 32, 4, 9, Err(Refusal::Memory))
 }
 
 #[test]
 fn empty_buffers(rt: HostRuntime) -> Result<(), Fail> {
-    asks_for(&rt, rt.alloc(), 0, 4, 10, Err(Refusal::Memory))?;
-    asks_for(&rt, rt.alloc(), 32, 0, 10, Err(Refusal::Memory))?;
-    asks_for(&rt, rt.alloc(), 32, 4, 0, Err(Refusal::Memory))?;
-    asks_for(&rt, rt.alloc(), 0, 0, 0, Err(Refusal::Memory))
+    asks_for(&rt, 0, 4, 10, Err(Refusal::Memory))?;
+    asks_for(&rt, 32, 0, 10, Err(Refusal::Memory))?;
+    asks_for(&rt, 32, 4, 0, Err(Refusal::Memory))?;
+    asks_for(&rt, 0, 0, 0, Err(Refusal::Memory))
 }
 
-// The store needs a row for each letter a so far as well as to come.
+// The store needs a row for each letter a so far as well as to come. It ends within a row, so it is no desk's.
 #[test]
 fn a_store_that_is_full(rt: HostRuntime) -> Result<(), Fail> {
     let mut frame = Frame::new(k3()?);
@@ -168,24 +156,14 @@ fn a_store_that_is_full(rt: HostRuntime) -> Result<(), Fail> {
 // After a refusal a frame goes on as if nothing had been asked.
 #[test]
 fn a_refusal_between_two_takes(rt: HostRuntime) -> Result<(), Fail> {
-    let mut frame = Frame::new(k3()?);
-    let mut work = [MARK; 32];
-    let mut row = [MARK; 4];
-    let mut store = [WORD; 10];
-    let mut bits = [BYTE; 3];
+    let mut desk = Desk::new(rt.alloc(), k3()?, 2, 2, 3)?;
+    assert_eq!(rt; desk.take(&[119], b"sa"), Ok((1, 0)));
     assert_eq!(rt;
-        frame.take(&[119], b"sa", &mut work, &mut row, &mut store),
-        Ok((1, 0))
-    );
-    assert_eq!(rt;
-        frame.take(&[0, 0, 9], b"ssjasa", &mut work, &mut row, &mut store),
+        desk.take(&[0, 0, 9], b"ssjasa"),
         Err(Refusal::Symbol { place: 2 })
     );
-    assert_eq!(rt;
-        frame.take(&[112, 7], b"ssja", &mut work, &mut row, &mut store),
-        Ok((2, 1))
-    );
-    assert_eq!(rt; frame.decode(0, &store, &mut bits), Ok(7));
-    assert!(rt; bits == [1, 0, 0]);
+    assert_eq!(rt; desk.take(&[112, 7], b"ssja"), Ok((2, 1)));
+    assert_eq!(rt; desk.decode(0), Ok(7));
+    assert!(rt; desk.bits.as_slice() == [1, 0, 0].as_slice());
     Ok(())
 }

@@ -1,31 +1,24 @@
 // Worked lines.
-use crate::desk::{BYTE, MARK, WORD, k3};
+use crate::marks::k3;
 use frame::Frame;
+use frame_desk::{BYTE, Desk, MARK, WORD};
 use refusal::Refusal;
 use std::process::Abort;
 use std::test::Fail;
 
 // Takes the symbols under a plan and decodes to state 0, as it must.
 fn decodes(
-    rt: &impl Abort,
+    rt: &(impl Abort + AllocGlobal),
     symbols: &[u32],
     plan: &[u8],
     joins: usize,
     cost: u32,
     wanted: &[u8],
 ) -> Result<(), Fail> {
-    let mut frame = Frame::new(k3()?);
-    let mut work = [MARK; 64];
-    let mut row = [MARK; 4];
-    let mut store = [WORD; 20];
-    let mut bits = [BYTE; 4];
-    assert_eq!(rt;
-        frame.take(symbols, plan, &mut work, &mut row, &mut store),
-        Ok((symbols.len(), joins))
-    );
-    assert_eq!(rt; frame.decode(0, &store, &mut bits), Ok(cost));
-    assert!(rt; wanted.len() <= 4);
-    assert!(rt; &bits[0..wanted.len()] == wanted);
+    let mut desk = Desk::new(rt.alloc(), k3()?, 4, 4, 4)?;
+    assert_eq!(rt; desk.take(symbols, plan), Ok((symbols.len(), joins)));
+    assert_eq!(rt; desk.decode(0), Ok(cost));
+    assert!(rt; desk.bits.starts_with(wanted));
     Ok(())
 }
 
@@ -52,21 +45,11 @@ fn a_tie_cut_after_its_first_step(rt: HostRuntime) -> Result<(), Fail> {
 // The same cut between two deliveries.
 #[test]
 fn a_tie_in_two_deliveries(rt: HostRuntime) -> Result<(), Fail> {
-    let mut frame = Frame::new(k3()?);
-    let mut work = [MARK; 48];
-    let mut row = [MARK; 4];
-    let mut store = [WORD; 10];
-    let mut bits = [BYTE; 4];
-    assert_eq!(rt;
-        frame.take(&[136], b"sa", &mut work, &mut row, &mut store),
-        Ok((1, 0))
-    );
-    assert_eq!(rt;
-        frame.take(&[120, 136, 136], b"sssjja", &mut work, &mut row, &mut store),
-        Ok((3, 2))
-    );
-    assert_eq!(rt; frame.decode(0, &store, &mut bits), Ok(0));
-    assert!(rt; bits == [1, 0, 0, 0]);
+    let mut desk = Desk::new(rt.alloc(), k3()?, 3, 2, 4)?;
+    assert_eq!(rt; desk.take(&[136], b"sa"), Ok((1, 0)));
+    assert_eq!(rt; desk.take(&[120, 136, 136], b"sssjja"), Ok((3, 2)));
+    assert_eq!(rt; desk.decode(0), Ok(0));
+    assert!(rt; desk.bits.as_slice() == [1, 0, 0, 0].as_slice());
     Ok(())
 }
 
@@ -97,7 +80,8 @@ fn a_frame_asked_before_any_symbol(rt: HostRuntime) -> Result<(), Fail> {
     Ok(())
 }
 
-// Bytes past the last step stay as they are, and a second decode answers the same.
+// Bytes past the last step stay as they are, and a second decode answers the same. The store ends within a row, so it
+// is no desk's.
 #[test]
 fn bytes_past_the_last_step(rt: HostRuntime) -> Result<(), Fail> {
     let mut frame = Frame::new(k3()?);

@@ -1,24 +1,8 @@
 // Plans at their limits.
 use plan::{Shape, read};
+use plan_letters::nested;
 use refusal::Refusal;
 use std::test::Fail;
-
-// Letters s, then letters j, then a.
-fn nested(
-    heap: std::alloc::Global,
-    singles: usize,
-    joins: usize,
-) -> Result<Vec<u8>, std::alloc::AllocError> {
-    let mut plan = Vec::new(heap);
-    for _ in 0..singles {
-        plan.push(b's')?;
-    }
-    for _ in 0..joins {
-        plan.push(b'j')?;
-    }
-    plan.push(b'a')?;
-    Ok(plan)
-}
 
 #[test]
 fn a_block_of_32_symbols(rt: HostRuntime) -> Result<(), Fail> {

@@ -10,20 +10,13 @@ use refusal::Refusal;
 use std::process::Abort;
 use std::test::Fail;
 
-fn is_refused<T: Drop>(answer: Result<T, Refusal>, refusal: Refusal) -> bool {
-    match answer {
-        Ok(_) => false,
-        Err(found) => found == refusal,
-    }
-}
-
 #[test]
 fn a_run_that_was_never_made(rt: HostRuntime) {
     let mut state = [Bit(true); 9];
     let mut work = [Bit(false); 81];
     let mut row = [Bit(false); 9];
     let mut run = Run::over(&mut state);
-    assert!(rt; is_refused(run.read(0), Refusal::Place));
+    assert_eq!(rt; run.read(0).err(), Some(Refusal::Place));
     assert_eq!(rt;
         run.take(&Sequence, &[0], b"sa", &mut work, &mut row),
         Err(Refusal::Memory)
@@ -51,7 +44,7 @@ fn a_run_made_for_another_size(rt: HostRuntime) {
         run.take(&CheckRegister, &[0], b"sa", &mut work, &mut row),
         Ok((1, 0))
     );
-    assert!(rt; is_refused(run.read(33), Refusal::Place));
+    assert_eq!(rt; run.read(33).err(), Some(Refusal::Place));
 }
 
 #[test]
@@ -60,7 +53,7 @@ fn buffers_that_are_short(rt: HostRuntime) {
     let mut work = [Bit(false); 162];
     let mut row = [Bit(false); 9];
     let mut none: [Bit; 0] = [];
-    assert!(rt; is_refused(Run::over(&mut none).make(&Sequence), Refusal::Memory));
+    assert_eq!(rt; Run::over(&mut none).make(&Sequence), Err(Refusal::Memory));
     let mut run = Run::over(&mut state);
     assert!(rt; run.make(&Sequence).is_ok());
     assert_eq!(rt;
@@ -110,10 +103,7 @@ fn take_thousand(rt: &impl Abort, run: &mut Run<'_, Bit>, symbols: &[u32], plan:
 fn a_million_symbols_and_one_more(rt: HostRuntime) -> Result<(), Fail> {
     let heap = rt.alloc();
     let symbols = vec![in heap; 0u32; 1000]?;
-    let mut plan = Vec::new(heap);
-    for _ in 0..500 {
-        plan.extend_from_slice(b"ssja")?;
-    }
+    let plan = b"ssja".repeat(heap, 500)?;
     let mut state = [Bit(true); 9];
     let mut run = Run::over(&mut state);
     assert!(rt; run.make(&Sequence).is_ok());
@@ -132,10 +122,9 @@ fn a_million_symbols_and_one_more(rt: HostRuntime) -> Result<(), Fail> {
 // Rows out of range mean none, also in the start state.
 #[test]
 fn survivors_out_of_range_in_the_start_state(rt: HostRuntime) -> Result<(), Fail> {
-    let Ok(code) = by_name("k3") else {
-        return Err(Fail::new("k3 is a code"));
+    let trellis = SurvivorTrellis {
+        code: by_name("k3")?,
     };
-    let trellis = SurvivorTrellis { code };
     let one = Survivor {
         word: 0,
         cost: 0,

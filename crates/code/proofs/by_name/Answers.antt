@@ -1,6 +1,5 @@
 -- The text of each arm is the name of the code that it makes.
-use Rattle.std.proofs.Common.{Ok, sym, refl, ap, ◌∙◌, rules}
-use Rattle.std.proofs.lemmas.Slice.Eq.{bytes_eq-Decides}
+use Rattle.std.proofs.Common.{Ok, sym, refl, ap, ◌∙◌}
 use Rattle.code.specs.Codes.{k3, k7, named}
 use Rattle.code.proofs.Codes.{same_code}
 use Rattle.code.proofs.by_name.Goals as goal
@@ -10,6 +9,3 @@ returns-in-k3 c = ap Ok (same_code _ k3 refl refl refl) ∙ sym (ap named c.in-k
 
 pub returns-in-k7 : goal.returns-in-k7
 returns-in-k7 c = ap Ok (same_code _ k7 refl refl refl) ∙ sym (ap named c.in-k7.is)
-
-pub returns-in_default : goal.returns-in_default
-returns-in_default c = search (rules, bytes_eq-Decides)

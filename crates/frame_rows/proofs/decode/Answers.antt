@@ -1,49 +1,92 @@
 -- The questions in their order, and the bits of a decode that passes them.
-use Rattle.std.proofs.Common.{◌≡◌, ◌-◌, true, false, ◌++◌, length, drop, is_some, Ok, unwrap_or, sym, refl, ap, ◌∙◌, inl, inr, arith}
+use Rattle.std.proofs.Common.{◌≡◌, ℕ, Option, ◌*◌, ◌<◌, ◌≤◌, true, length, ltb, is_some, Some, None, Ok, Err, unwrap_or, sym, refl, ap, ◌∙◌, arith, rules}
+use Rattle.std.specs.Option.{option_flatten}
+use Rattle.std.specs.Result.{result_ok}
 use Rattle.std.proofs.lemmas.Bool.{and_from, and_left, and_right, le-leb, le-ltb, lt-leb, lt-ltb}
+use Rattle.refusal.specs.declared.Refusal.TheVariants.{Memory, NoPath, Place}
 use Rattle.code.specs.Codes.{states}
-use Rattle.frame_paths.specs.Rows.{decoded}
-use Rattle.frame_rows.specs.Traces.{memory_suffices, has_total, rows_in, total_of}
+use Rattle.frame_rows.specs.Traces.{memory_suffices, rows_in, row_words, sound, state_total}
 use Rattle.frame_rows.proofs.Questions.{says_decoded, says_memory, says_no_path, says_place, says_rows}
 use Rattle.frame_rows.proofs.decode.Goals as goal
+use Rattle.frame_rows.proofs.decode.Goals.{In_ok-end, In_ok-rows, After-flatten}
 
-pub returns-then-state-states : goal.returns-then-state-states
-returns-then-state-states c =
-    record { answer = says_place _ _ _ _ _ (le-ltb c.args.state (states c.args.code) (omega arith)); bits = refl }
+-- the state is one of the code's
+module _ (c : In_ok-end) where
+  state_is : (c.args.state < states c.args.code) × (c.in_ok-end.end.code ≡ c.args.code) × (c.in_ok-end.end.number ≡ c.args.state)
+  state_is = let is = c.ok_or.ensures.ok_part ∙ ap result_ok c.in_ok-end.was in rw is at c.of.ensures
 
-pub returns-then-not-has_room : goal.returns-then-not-has_room
-returns-then-not-has_room c =
-    let state = lt-ltb c.args.state (states c.args.code) (omega arith) in
-    let memory : memory_suffices c.args.code c.args.rows c.args.steps c.args.store.now (length c.args.bits.now) ≡ false =
-    elim c.then-not-has_room.either [
-      | inl a ↦ and_left _ _ (sym c.has_room.ensures ∙ a)
-      | inr b ↦ and_right _ _ (lt-leb c.args.steps (length c.args.bits.now) b.1)
-    ] in
-    record { answer = says_memory _ _ _ _ _ state memory; bits = refl }
+  has_state : ltb c.args.state (states c.args.code) ≡ true
+  has_state = lt-ltb c.args.state (states c.args.code) (state_is.0)
 
-pub returns-in_default : goal.returns-in_default
-returns-in_default c =
-    let state = lt-ltb c.args.state (states c.args.code) (omega arith) in
-    let memory = and_from _ _ (sym c.if-not-has_room.ensures) (le-leb c.args.steps (length c.args.bits.now) (omega arith)) in
-    let none : has_total c.args.totals.now c.args.state ≡ false = sym (ap is_some c.in_default.ensures) in
-    record { answer = says_no_path _ _ _ _ _ state memory none; bits = refl }
+-- and the store has the rows
+module _ (c : In_ok-rows) where
+  rows_are : (c.args.rows * row_words c.args.code ≤ length c.args.store.now) × (c.in_ok-rows.rows.end ≡ c.in_ok-end.end) × (c.in_ok-rows.rows.count ≡ c.args.rows) × (c.in_ok-rows.rows.store.now ≡ c.args.store.now)
+  rows_are =
+      let is = c.ok_or-2.ensures.ok_part ∙ ap result_ok c.in_ok-rows.was in
+      let all = rw is at c.of-2.ensures in
+      (rw (state_is (goal.at.In_ok-rows c).In_ok-end).1 at all.0, all.1, all.2, all.3)
 
-pub returns-then-not-is_sound : goal.returns-then-not-is_sound
-returns-then-not-is_sound c =
-    let state = lt-ltb c.args.state (states c.args.code) (omega arith) in
-    let memory = and_from _ _ (sym c.if-not-has_room.ensures) (le-leb c.args.steps (length c.args.bits.now) (omega arith)) in
-    let some : has_total c.args.totals.now c.args.state ≡ true = sym (ap is_some c.in-Some.ensures) in
-    record { answer = says_rows _ _ _ _ _ state memory some (sym c.if-not-is_sound.ensures); bits = refl }
+  code_is : c.in_ok-rows.rows.end.code ≡ c.args.code
+  code_is = ap (λ s. s.code) rows_are.1 ∙ (state_is (goal.at.In_ok-rows c).In_ok-end).1
 
-pub returns : goal.returns
-returns c =
-    let state = lt-ltb c.args.state (states c.args.code) (omega arith) in
-    let memory = and_from _ _ (sym c.if-not-has_room.ensures) (le-leb c.args.steps (length c.args.bits.now) (omega arith)) in
-    let some : has_total c.args.totals.now c.args.state ≡ true = sym (ap is_some c.in-Some.ensures) in
-    let code = c.args.code in
-    let whole : c.args.steps - 0 ≡ c.args.steps = omega arith in
-    let total : c.in-Some.total ≡ total_of c.args.totals.now c.args.state = ap (λ o. unwrap_or o 0) c.in-Some.ensures in
-    record {
-      answer = ap Ok total ∙ says_decoded _ _ _ _ _ state memory some (sym c.if-not-is_sound.ensures);
-      bits = ap (λ l. l ++ drop (c.args.steps - 0) c.args.bits.now) c.write_bits.ensures ∙ ap (λ n. decoded code (rows_in code c.args.store.now c.args.rows) c.args.state ++ drop n c.args.bits.now) whole;
-    }
+  number_is : c.in_ok-rows.rows.end.number ≡ c.args.state
+  number_is = ap (λ s. s.number) rows_are.1 ∙ (state_is (goal.at.In_ok-rows c).In_ok-end).2
+
+pub returns-in_err-end-clause-answer : goal.returns-in_err-end-clause-answer
+returns-in_err-end-clause-answer c =
+    let none = c.ok_or.ensures.ok_part ∙ ap result_ok c.in_err-end.was in
+    let past : states c.args.code ≤ c.args.state = rw none at c.of.ensures in
+    let is : c.from_residual.result ≡ Err Place = search rules in
+    is ∙ says_place _ _ _ _ _ (le-ltb c.args.state (states c.args.code) past)
+
+pub returns-in_err-rows-clause-answer : goal.returns-in_err-rows-clause-answer
+returns-in_err-rows-clause-answer c =
+    let here = (goal.at.returns-in_err-rows-clause-answer c).In_ok-end in
+    let none = c.ok_or-2.ensures.ok_part ∙ ap result_ok c.in_err-rows.was in
+    let few : length c.args.store.now < c.args.rows * row_words c.args.code = rw (none, (state_is here).1) at c.of-2.ensures in
+    let is : c.from_residual-in_err-rows.result ≡ Err Memory = search rules in
+    is ∙ says_memory _ _ _ _ _ (has_state here) (and_left _ _ (lt-leb _ _ few))
+
+pub returns-then-steps-bits-clause-answer : goal.returns-then-steps-bits-clause-answer
+returns-then-steps-bits-clause-answer c =
+    says_memory _ _ _ _ _ (has_state (goal.at.returns-then-steps-bits-clause-answer c).In_ok-end) (and_right _ _ (lt-leb c.args.steps (length c.args.bits.now) c.if-steps-bits.true))
+
+-- the memory suffices
+module _ (c : In_ok-rows) (room : c.args.steps ≤ length c.args.bits.now) where
+  has_memory : memory_suffices c.args.code c.args.rows c.args.steps c.args.store.now (length c.args.bits.now) ≡ true
+  has_memory = and_from _ _ (le-leb _ _ (rows_are c).0) (le-leb _ _ room)
+
+  sound_is : sound c.in_ok-rows.rows.end.code (rows_in c.in_ok-rows.rows.end.code c.in_ok-rows.rows.store.now c.in_ok-rows.rows.count) c.args.steps c.in_ok-rows.rows.end.number
+      ≡ sound c.args.code (rows_in c.args.code c.args.store.now c.args.rows) c.args.steps c.args.state
+  sound_is = rw (code_is c, number_is c, (rows_are c).2, (rows_are c).3)
+
+-- the total that is looked up
+flat : (o : Option (Option ℕ)) → option_flatten o ≡ unwrap_or o None
+flat None = refl
+flat (Some o) = refl
+
+module _ (c : After-flatten) where
+  total_is : c.flatten.result ≡ state_total c.args.totals.now c.args.state
+  total_is = c.flatten.ensures ∙ flat c.copied.result ∙ ap (λ o. unwrap_or o None) c.copied.ensures ∙ c.get.ensures.lookup.4 (omega arith) None
+
+pub returns-in_err-total-clause-answer : goal.returns-in_err-total-clause-answer
+returns-in_err-total-clause-answer c =
+    let here = (goal.at.returns-in_err-total-clause-answer c).In_ok-rows in
+    let none = c.ok_or-3.ensures.ok_part ∙ ap result_ok c.in_err-total.was in
+    let is : c.from_residual-in_err-total.result ≡ Err NoPath = search rules in
+    is ∙ says_no_path _ _ _ _ _ (has_state (goal.at.In_ok-rows here).In_ok-end) (has_memory here c.if-steps-bits.false)
+    (ap is_some (sym (total_is (goal.at.returns-in_err-total-clause-answer c).After-flatten) ∙ none))
+
+pub returns-then-not-is_sound-clause-answer : goal.returns-then-not-is_sound-clause-answer
+returns-then-not-is_sound-clause-answer c =
+    let here = (goal.at.returns-then-not-is_sound-clause-answer c).In_ok-rows in
+    let is = c.ok_or-3.ensures.ok_part ∙ ap result_ok c.in_ok-total.was in
+    says_rows _ _ _ _ _ (has_state (goal.at.In_ok-rows here).In_ok-end) (has_memory here c.if-steps-bits.false)
+    (ap is_some (sym (total_is (goal.at.returns-then-not-is_sound-clause-answer c).After-flatten) ∙ is)) (sym (sound_is here c.if-steps-bits.false) ∙ sym c.is_sound.ensures ∙ c.if-not-is_sound.true)
+
+pub returns-clause-answer : goal.returns-clause-answer
+returns-clause-answer c =
+    let here = (goal.at.returns-clause-answer c).In_ok-rows in
+    let is = c.ok_or-3.ensures.ok_part ∙ ap result_ok c.in_ok-total.was in
+    let some = sym (total_is (goal.at.returns-clause-answer c).After-flatten) ∙ is in
+    ap (λ o. Ok (unwrap_or o 0)) (sym some) ∙ says_decoded _ _ _ _ _ (has_state (goal.at.In_ok-rows here).In_ok-end) (has_memory here c.if-steps-bits.false) (ap is_some some) (sym (sound_is here c.if-steps-bits.false) ∙ sym c.is_sound.ensures ∙ c.if-not-is_sound.false)

@@ -1,18 +1,11 @@
 -- The check is the register with each place inverted; the refusals are those of `register`.
 use Rattle.std.proofs.Common.{ℕ, [], Ok, sym, ap, ◌∙◌}
 use lib.Bits.{bit_xor}
-use Rattle.std.proofs.lemmas.Result.{err_from_is_err_and}
-use Rattle.refusal.proofs.Questions.{asked_first, asked_rest}
+use Rattle.refusal.proofs.Questions.{asked_rest}
 use Rattle.run_check.specs.Check.{bit_questions, register_value, check_value}
 use Rattle.run_check.proofs.Questions.{passed_bits, passed_value}
 use Rattle.run_check.proofs.Weights.{check_value_is}
 use Rattle.run_check.proofs.check.Goals as goal
-
-pub returns-in_err-register : goal.returns-in_err-register
-returns-in_err-register c =
-    let bits = c.args.bits.now in
-    let p = err_from_is_err_and c.from_residual.result c.from_residual.ensures.1 in
-    rw (p.1, p.2) (sym (asked_first [] (register_value bits) (register_value bits) (check_value bits) (bit_questions bits) _ (sym c.in_err-register.ensures)))
 
 pub returns : goal.returns
 returns c =

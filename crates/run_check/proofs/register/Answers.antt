@@ -1,17 +1,10 @@
 -- Bits that pass are shifted; the refusals are those of `ask`.
 use Rattle.std.proofs.Common.{[], Ok, sym, ap, ◌∙◌}
-use Rattle.std.proofs.lemmas.Result.{err_from_is_err_and}
-use Rattle.refusal.proofs.Questions.{asked_first, asked_rest}
+use Rattle.refusal.proofs.Questions.{asked_rest}
 use Rattle.run_check.specs.Check.{bit_questions, register_value}
 use Rattle.run_check.proofs.Questions.{passed_bits}
 use Rattle.run_check.proofs.Weights.{register_value_is}
 use Rattle.run_check.proofs.register.Goals as goal
-
-pub returns-in_err-ask : goal.returns-in_err-ask
-returns-in_err-ask c =
-    let bits = c.args.bits.now in
-    let p = err_from_is_err_and c.from_residual.result c.from_residual.ensures.1 in
-    rw (p.1, p.2) (sym (asked_first [] tt tt (register_value bits) (bit_questions bits) _ (sym c.in_err-ask.ensures)))
 
 pub returns : goal.returns
 returns c =

@@ -1,5 +1,5 @@
 -- Each turn is one single step, after which the newest bit is written.
-use Rattle.std.proofs.Common.{◌≡◌, ℕ, ◌+◌, ◌<◌, ◌≢◌, length, sym, refl, ap, ◌∙◌, arith, get_or-set_other, get_or-set_same, below_more}
+use Rattle.std.proofs.Common.{◌≡◌, ◌+◌, ◌<◌, ◌≢◌, length, sym, refl, ap, ◌∙◌, arith, get_or-set_other, get_or-set_same, below_more}
 use mir.Val.{bool_byte}
 use Rattle.algebra_scalars.specs.Bits.{number}
 use Rattle.run_sequence.specs.Sequence.{stages}
@@ -30,17 +30,3 @@ loop-bit-preserved c =
       c.shift.ensures.rest ∙ c.loop-bit.invariant.2,
       omega arith,
     )
-
-pub returns : goal.returns
-returns c =
-    let whole : c.loop-bit.bit-index ≡ length c.args.bits.now = omega arith in
-    record {
-      answer = c.in_ok-ask.ensures;
-      ran = record {
-        newest = λ k h. c.loop-bit.invariant.0 k (omega arith);
-        after = λ j h. c.loop-bit.invariant.1 j h ∙ ap (λ (n : ℕ). stages c.args.state.now n j) whole;
-        rest = c.loop-bit.invariant.2;
-        length_state = c.loop-bit.auto.state;
-        length_bits = c.loop-bit.auto.bits;
-      };
-    }

@@ -6,7 +6,7 @@ use Rattle.plan.specs.Plans.{after}
 use Rattle.plan.specs.Asks.{asks, blocks, joins, most, shape}
 use Rattle.plan.specs.declared.Shape.{Shape}
 use Rattle.plan.proofs.Blocks.{blocks_are, joins_few}
-use Rattle.plan.proofs.Passed.{all_known, all_found, all_made, all_singles, none_left, shape_is}
+use Rattle.plan.proofs.Passed.{all_known, all_found, all_singles, none_left, shape_is}
 use Rattle.recursion.specs.Steps.{rule}
 use Rattle.refusal.specs.Questions.{asked}
 use Rattle.engine.specs.Blocks.{Stands, chosen}
@@ -75,15 +75,8 @@ returns-then-not-has_memory g c =
     let same = shape_is plan (length ys) (shape plan) s (sym c.in_ok-shape.ensures) in
     record {
       answer = sym (says_memory (rule g.E.Algebra g.R.Recursion c.args.r.now) ys plan _ _ _ _ _ _ c.in_ok-shape.ensures _ _ c.in_ok-ask_symbols.ensures (sym c.if-not-is_within.ensures)
-          (tested _ _ _ _ _ _ _ _ (λ d n. g.T.Target.roomy c.args.target.now d (length c.args.buffer.now) n) false c.size-d.ensures (ap (λ x. x.most) same) (blocks_fit plan (length ys) s (sym c.in_ok-shape.ensures)) c.if-not-has_memory.ensures));
+          (tested _ _ _ _ _ _ _ _ (λ d n. g.T.Target.roomy c.args.target.now d (length c.args.buffer.now) n) false c.size.ensures (ap (λ x. x.most) same) (blocks_fit plan (length ys) s (sym c.in_ok-shape.ensures)) c.if-not-has_memory.ensures));
       delivered = (refl, refl, refl, refl);
-    }
-
-pub has_memory-requires : goal.has_memory-requires
-has_memory-requires g c =
-    record {
-      le_d = omega (arith, g.met.R.Recursion.positive c.args.r.now, c.size-d.ensures);
-      d_bound = omega (arith, g.met.R.Recursion.bounded c.args.r.now, c.size-d.ensures);
     }
 
 pub evaluate-requires : goal.evaluate-requires
@@ -93,18 +86,13 @@ evaluate-requires g c =
     let s = c.in_ok-shape.shape in
     let passed = sym c.in_ok-shape.ensures in
     let same = shape_is plan (length ys) (shape plan) s passed in
-    let has = enough c.size-d.result s.most _ _ _ c.if-not-has_memory.ensures in
+    let has = enough c.size.result s.most _ _ _ c.if-not-has_memory.ensures in
     let m : s.most ≡ most plan = ap (λ x. x.most) same in
     let b = blocks_fit plan (length ys) s passed in record {
-      d_bound = omega (arith, g.met.R.Recursion.bounded c.args.r.now, c.size-d.ensures);
-      d_in_bounds = has.2;
-      by_index = all_known plan (length ys) (shape plan) s passed;
-      by_index_2 = all_found plan (length ys) (shape plan) s passed;
-      by_index_3 = all_made plan (length ys) (shape plan) s passed;
-      plan_value = all_singles plan (length ys) (shape plan) s passed;
-      plan_value_2 = none_left plan (length ys) (shape plan) s passed;
-      d_in_bounds_2 = subst (λ x. x * (c.size-d.result * c.size-d.result) ≤ length c.args.work.now) m has.1;
-      plan_value_3 = subst (λ x. g.T.Target.roomy c.args.target.now c.size-d.result (length c.args.buffer.now) x ≡ true) b has.0;
+      row_in_bounds = has.2;
+      passed = passed ∙ ap Ok same;
+      work_in_bounds = subst (λ x. x * (c.size.result * c.size.result) ≤ length c.args.work.now) m has.1;
+      target_has_room = subst (λ x. g.T.Target.roomy c.args.target.now c.size.result (length c.args.buffer.now) x ≡ true) b has.0;
     }
 
 pub returns : goal.returns
@@ -116,11 +104,11 @@ returns g c =
     let s = c.in_ok-shape.shape in
     let same = shape_is plan (length ys) (shape plan) s (sym c.in_ok-shape.ensures) in
     let says = says_taken r ys plan _ _ _ _ _ _ c.in_ok-shape.ensures _ _ c.in_ok-ask_symbols.ensures (sym c.if-not-is_within.ensures)
-    (tested _ _ _ _ _ _ _ _ (λ d n. g.T.Target.roomy c.args.target.now d (length c.args.buffer.now) n) true c.size-d.ensures (ap (λ x. x.most) same) (blocks_fit plan (length ys) s (sym c.in_ok-shape.ensures)) c.if-not-has_memory.ensures) in
+    (tested _ _ _ _ _ _ _ _ (λ d n. g.T.Target.roomy c.args.target.now d (length c.args.buffer.now) n) true c.size.ensures (ap (λ x. x.most) same) (blocks_fit plan (length ys) s (sym c.in_ok-shape.ensures)) c.if-not-has_memory.ensures) in
     record {
       answer = ap (λ j. Ok (length ys, j)) (ap (λ x. x.joins) same) ∙ sym says;
       delivered = record {
-        fed = subst (λ d. Fed g.T.Target.Applied a d (chosen r.entry ys) c.args.target.now c.args.buffer.now (after plan (length plan)).blocks c.evaluate.new.target c.evaluate.new.buffer) c.size-d.ensures c.evaluate.ensures.fed;
-        block = subst (λ d. Stands a d (chosen r.entry ys) c.evaluate.new.work (after plan (length plan)).last) c.size-d.ensures c.evaluate.ensures.block;
+        fed = subst (λ d. Fed g.T.Target.Applied a d (chosen r.entry ys) c.args.target.now c.args.buffer.now (after plan (length plan)).blocks c.evaluate.new.target c.evaluate.new.buffer) c.size.ensures c.evaluate.ensures.fed;
+        block = subst (λ d. Stands a d (chosen r.entry ys) c.evaluate.new.work (after plan (length plan)).last) c.size.ensures c.evaluate.ensures.block;
       };
     }

@@ -10,6 +10,6 @@ use Rattle.engine.proofs.letters.evaluate.Given as goal
 abbrev pub invariant-loop-code : goal.invariant-loop-code
 invariant-loop-code g l =
     let a = g.E.Algebra in
-    Doing g.T.Target.Applied a l.d (chosen (rule a g.R.Recursion l.r).entry l.symbols) l.initial.target l.initial.buffer (after l.plan l.code-index) l.stack.top l.stack.next l.stack.applied l.target l.buffer l.work
+    Doing g.T.Target.Applied a l.size.rows (chosen (rule a g.R.Recursion l.r).entry l.symbols) l.initial.target l.initial.buffer (after l.plan l.code-index) l.stack.top l.stack.next l.stack.applied l.target l.buffer l.work
     × (length l.buffer ≡ length l.initial.buffer) × (length l.work ≡ length l.initial.work) × (length l.row ≡ length l.initial.row)
-    × ((n : ℕ) → tally (is l.plan 97) l.code-index + n ≡ blocks l.plan → g.T.Target.roomy l.target l.d (length l.buffer) n ≡ true)
+    × ((n : ℕ) → tally (is l.plan 97) l.code-index + n ≡ blocks l.plan → g.T.Target.roomy l.target l.size.rows (length l.buffer) n ≡ true)

@@ -1,10 +1,10 @@
-use Rattle.std.proofs.Common.{◌+◌, ◌*◌}
-use Rattle.algebra.specs.Sums.{at}
+use Rattle.std.proofs.Common.{◌*◌}
+use Rattle.engine.specs.Matrices.{Normal, entry, means}
 use Rattle.engine.proofs.Adds.{Summed}
 use Rattle.engine.proofs.matrix.row_times.Given as goal
 
 abbrev pub invariant-loop-k : goal.invariant-loop-k
 invariant-loop-k g l =
     let a = g.E.Algebra in
-    let v = at a.ops.zero a.mean in
-    Summed a l.d (λ i j. a.ops.mul (v l.x i) (v l.m (i * l.d + j))) l.k l.out
+    let d = l.size.rows in
+    Normal a.normal l.x d → Normal a.normal l.m (d * d) → Summed a d (λ i j. a.ops.mul (means a l.x i) (entry a d l.m i j)) l.k l.out

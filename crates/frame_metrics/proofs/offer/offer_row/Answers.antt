@@ -1,12 +1,10 @@
 -- Each turn makes one offer, or finds none to make.
-use Rattle.std.proofs.Common.{ℕ, ◌+◌, ◌<◌, ◌≤◌, min, length, get_or, sym, ap, ◌∙◌, subst, arith}
+use Rattle.std.proofs.Common.{◌<◌, length, arith}
 use Rattle.std.proofs.lemmas.List.{get_or_default}
 use Rattle.algebra_survivor.specs.Survivors.{none_row}
-use Rattle.frame_metrics.specs.Keys.{key_high}
-use Rattle.frame_metrics.specs.Totals.{most_cost}
-use Rattle.frame_metrics.proofs.Offers.{Offered, none_offered, offered_more, offered_skip}
+use Rattle.frame_metrics.proofs.Offers.{none_offered, offered_more, offered_skip}
 use Rattle.frame_metrics.proofs.offer.offer_row.Goals as goal
-use Rattle.frame_metrics.proofs.offer.offer_row.Goals.{then-cell-le-LONGEST, else-cell-le-LONGEST}
+use Rattle.frame_metrics.proofs.offer.offer_row.Goals.{then-cell-le-BLOCK, else-cell-le-BLOCK}
 
 pub loop-j-init : goal.loop-j-init
 loop-j-init c = none_offered c.args.row.now c.args.total c.args.best.now
@@ -17,13 +15,10 @@ loop-j-preserved c =
     let row = c.args.row.now in
     let low : j < length row = omega arith in
     let is = get_or_default row j (record { word = 0; cost = 0; length = 0 }) none_row low in
-    elim c.if-cell-le-LONGEST.branch [
-      | then-cell-le-LONGEST w ↦
-          let low-key = subst (λ (k : ℕ). key_high k ≤ c.args.total + most_cost) w.key.ensures.value w.key.ensures.low in
-          subst (Offered row c.args.total c.args.best.now (j + 1)) (sym w.best-is)
-          (offered_more row c.args.total c.args.best.now j c.loop-j.best _ is c.loop-j.invariant w.min.result (omega arith) w.if-cell-le-LONGEST.true low-key (w.min.ensures ∙ ap (min (get_or c.loop-j.best j 0)) w.key.ensures.value))
-      | else-cell-le-LONGEST w ↦
-          subst (Offered row c.args.total c.args.best.now (j + 1)) (sym w.best-is) (offered_skip row c.args.total c.args.best.now j c.loop-j.best _ is c.loop-j.invariant w.if-cell-le-LONGEST.false)
+    elim c.if-cell-le-BLOCK.branch [
+      | then-cell-le-BLOCK w ↦
+          rw w.best-is (offered_more row c.args.total c.args.best.now j c.loop-j.best _ is c.loop-j.invariant w.or_better.result (omega arith) w.if-cell-le-BLOCK.true (omega arith) w.or_better.ensures)
+      | else-cell-le-BLOCK w ↦ rw w.best-is (offered_skip row c.args.total c.args.best.now j c.loop-j.best _ is c.loop-j.invariant w.if-cell-le-BLOCK.false)
     ]
 
 pub returns : goal.returns

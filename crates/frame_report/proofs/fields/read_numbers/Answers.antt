@@ -1,39 +1,38 @@
 -- A turn reads one field more; the first that is no number is the refusal.
-use Rattle.std.proofs.Common.{◌≡◌, ◌<◌, ◌≤◌, ◌≢◌, [], length, is_some, Ok, unwrap_or, sym, ap, ◌∙◌, arith, get_or-set_other, get_or-set_same, below_more}
-use Rattle.std.proofs.lemmas.List.FromFn.{fill_by_all}
-use Rattle.std.proofs.lemmas.List.{length-take-le, get_or-take}
-use Rattle.refusal.proofs.Questions.{asked_yes, asked_no}
-use Rattle.frame_report.specs.Fields.{field_count, number_of_field, fields, number_at, numbers}
-use Rattle.frame_report.proofs.Digits.{cut_field}
+use Rattle.std.proofs.Common.{◌≡◌, ◌∙◌, ◌<◌, sym, ap, arith, rules, length, Some, None, Ok, Err}
+use Rattle.refusal.specs.declared.Refusal.TheVariants.{Text}
+use Rattle.frame_report.specs.Fields.{number_of_field}
+use Rattle.frame_report.proofs.Chunks.{left_length, read_length, reading_all, reading_more, reading_stops}
 use Rattle.frame_report.proofs.fields.read_numbers.Goals as goal
+
+pub returns-in_err-number : goal.returns-in_err-number
+returns-in_err-number c =
+    let steps = c.in-Some.ensures.steps in
+    let none : number_of_field c.in-Some.field.now ≡ None = search rules in
+    let stops = reading_stops _ _ _ _ c.loop-place.invariant.reading c.in-Some.field.now _ steps.0.1.0 (rw c.loop-place.invariant.size at steps.0.1.1) steps.0.1.2 none in
+    let refused : c.from_residual.result ≡ Err (Text c.in-Some.place) = search rules in
+    rw refused (ap (λ n. Err (Text n)) steps.1 ∙ sym stops)
+
+pub push-requires : goal.push-requires
+push-requires c =
+    let r = c.loop-place.invariant.reading in
+    let room : length c.loop-place.numbers.items < 50 =
+    omega (arith, c.requires, c.in-Some.ensures.steps.0.1.2, left_length _ _ _ _ r, read_length _ _ _ _ r) in
+    (omega arith, room)
 
 pub loop-place-preserved : goal.loop-place-preserved
 loop-place-preserved c =
-    let line = c.args.line.now in
-    let n = c.loop-place.place in
-    let within : n < length c.loop-place.numbers = omega arith in
-    let here = sym c.in-Some.is ∙ c.field_number.ensures ∙ ap number_of_field (cut_field line n _ _ (omega arith) c.min-end.ensures) in
-    below_more _ _
-    (λ k h. let ne : k ≢ n = omega arith in ((c.loop-place.invariant k h).0, get_or-set_other _ n k _ 0 ne ∙ (c.loop-place.invariant k h).1))
-    (ap is_some (sym here), get_or-set_same _ n _ 0 within ∙ ap (λ o. unwrap_or o 0) here)
-
-pub returns-in-None : goal.returns-in-None
-returns-in-None c =
-    let line = c.args.line.now in
-    let n = c.loop-place.place in
-    let here = sym c.in-None.is ∙ c.field_number.ensures ∙ ap number_of_field (cut_field line n _ _ (omega arith) c.min-end.ensures) in
+    let steps = c.in-Some.ensures.steps in
+    let some : number_of_field c.in-Some.field.now ≡ Some c.in_ok-number.number = search rules in
     record {
-      answer = sym (asked_no (fields line) [] (field_count line) n (omega arith) (ap is_some (sym here)) (λ k h. (c.loop-place.invariant k h).0));
-      read = tt;
+      can_next = (c.in-Some.ensures.goes.on tt).0;
+      is_finite = (c.in-Some.ensures.goes.on tt).1;
+      size = steps.0.0 ∙ c.loop-place.invariant.size;
+      reading = rw (c.push.ensures.items, steps.2)
+          (reading_more _ _ _ _ c.loop-place.invariant.reading c.in-Some.field.now _ steps.0.1.0 (rw c.loop-place.invariant.size at steps.0.1.1) steps.0.1.2 _ some);
     }
 
 pub returns : goal.returns
-unfolding numbers
 returns c =
-    let line = c.args.line.now in
-    let count : c.div_ceil-count.result ≡ field_count line = omega arith in
-    let long : c.div_ceil-count.result ≤ length c.loop-place.numbers = omega arith in
-    record {
-      answer = ap Ok count ∙ sym (asked_yes (fields line) [] (field_count line) (λ k h. (c.loop-place.invariant k (omega arith)).0));
-      read = rw count (fill_by_all (number_at line) _ (field_count line) 0 (length-take-le _ _ (omega arith)) (λ k h. get_or-take _ _ k 0 h ∙ (c.loop-place.invariant k (omega arith)).1));
-    }
+    let all = reading_all _ _ _ _ c.loop-place.invariant.reading c.in-None.ensures.steps.0.1.0 in
+    ap Ok all.0 ∙ sym all.1

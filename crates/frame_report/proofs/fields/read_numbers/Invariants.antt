@@ -1,7 +1,13 @@
-use Rattle.std.proofs.Common.{◌≡◌, ℕ, ◌<◌, true, get_or, is_some}
-use Rattle.frame_report.specs.Fields.{field, number_of_field, number_at}
+use Rattle.std.proofs.Common.{◌≡◌}
+use Rattle.std.specs.Iterator.Adapters.{enumerate_count, enumerate_source}
+use Rattle.std.specs.Slice.Iter.{chunks_rest, chunks_size}
+use Rattle.frame_report.proofs.Chunks.{Reading}
 use Rattle.frame_report.proofs.fields.read_numbers.Given as goal
 
--- each field so far is a number, and is read
 abbrev pub invariant-loop-place : goal.invariant-loop-place
-invariant-loop-place l = (k : ℕ) → k < l.place → (is_some (number_of_field (field l.line k)) ≡ true) × (get_or l.numbers k 0 ≡ number_at l.line k)
+invariant-loop-place l = record {
+  can_next : (goal.iterator-loop-place).can_next l.place-iterator;
+  is_finite : (goal.iterator-loop-place).is_finite l.place-iterator;
+  size : chunks_size (enumerate_source l.place-iterator) ≡ 4;
+  reading : Reading l.line (chunks_rest (enumerate_source l.place-iterator)) (enumerate_count l.place-iterator) l.numbers.items;
+}

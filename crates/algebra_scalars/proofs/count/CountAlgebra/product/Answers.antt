@@ -1,7 +1,6 @@
-use Rattle.std.proofs.Common.{sym, ◌∙◌}
-use native.Mathlib.Nat.{mod-mod}
-use Rattle.algebra_scalars.specs.CountsLemmas.{residue_same, times_residue}
+use Rattle.std.proofs.Common.{sym}
+use Rattle.algebra_scalars.specs.CountsLemmas.{count_formulas_lem}
 use Rattle.algebra_scalars.proofs.count.CountAlgebra.product.Goals as goal
 
 pub returns : goal.returns
-returns c = residue_same _ _ (mod-mod _ _) ∙ sym (times_residue c.args.self.0 c.args.other.0)
+returns c = sym (count_formulas_lem.product c.args.self.0 c.args.other.0)

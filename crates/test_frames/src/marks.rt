@@ -1,0 +1,47 @@
+// The codes, and what shows that nothing was written.
+use algebra_survivor::Survivor;
+use code::{Code, by_name};
+use frame_desk::{BYTE, Desk, MARK, WORD};
+use std::test::Fail;
+
+pub(crate) fn k3() -> Result<Code, Fail> {
+    Ok(by_name("k3")?)
+}
+
+pub(crate) fn k7() -> Result<Code, Fail> {
+    Ok(by_name("k7")?)
+}
+
+// What a lent buffer is full of, and no test writes.
+pub(crate) trait Mark {
+    fn is_mark(&self) -> bool;
+}
+
+impl Mark for Survivor {
+    fn is_mark(&self) -> bool {
+        self.word == MARK.word && self.cost == MARK.cost && self.length == MARK.length
+    }
+}
+
+impl Mark for u32 {
+    fn is_mark(&self) -> bool {
+        *self == WORD
+    }
+}
+
+impl Mark for u8 {
+    fn is_mark(&self) -> bool {
+        *self == BYTE
+    }
+}
+
+pub(crate) fn is_marked<T: Mark>(items: &[T]) -> bool {
+    items.iter().all(|item| item.is_mark())
+}
+
+// Whether no take wrote anything.
+pub(crate) fn is_untouched(desk: &Desk) -> bool {
+    is_marked(desk.work.as_slice())
+        && is_marked(desk.row.as_slice())
+        && is_marked(desk.store.as_slice())
+}
