@@ -12,16 +12,8 @@ module _ {V : Type 0} (k : Ops V) where
   unfolding sum
   sum_more n f = rw add-one
 
-  -- the product of two elements that were read
-  pub mul_read : (p x y v w : V) → p ≡ k.mul x y → v ≡ x → w ≡ y → p ≡ k.mul v w
-  mul_read p x y v w e l r = cc
-
   pub mul_both : (x y v w : V) → x ≡ v → y ≡ w → k.mul x y ≡ k.mul v w
   mul_both x y v w l r = cc
-
-  -- one turn of a loop that sums f
-  pub sum_next : (n : ℕ) (f : ℕ → V) (was x is : V) → was ≡ sum k n f → x ≡ f n → is ≡ k.add was x → is ≡ sum k (n + 1) f
-  sum_next n f was x is before here turn = turn ∙ ap (λ t. k.add t x) before ∙ ap (k.add (sum k n f)) here ∙ sym (sum_more n f)
 
   -- a loop that summed f to its end
   pub sum_done : (n d : ℕ) (f : ℕ → V) (is : V) → n ≡ d → is ≡ sum k n f → is ≡ sum k d f

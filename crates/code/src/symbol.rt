@@ -10,7 +10,7 @@ pub const BASE: u32 = 16;
 // a soft value goes from 0, surely 0, to SURE, surely 1
 pub const SURE: u32 = 7;
 
-// stands for a value that was not received
+// stands for a value that was not received; a symbol is a number, and so this is no `None`
 pub const ERASED: u32 = 8;
 
 // the greatest soft value on the side of code bit 0, and the least on the side of 1

@@ -1,5 +1,6 @@
 -- A state of d elements, and what a block does to it.
---   Moved a   a block moved the state: it was multiplied by the block's matrix, and nothing past its d elements has changed
+--   Moved a   a block moved the state: it was multiplied by the block's matrix, and nothing past its d elements
+--             has changed
 use Rattle.std.specs.Prelude.{◌≡◌, ℕ, ◌<◌, List, drop}
 use Rattle.algebra.specs.Sums.{at}
 use Rattle.algebra.specs.declared.Algebra.{Ghosts as Algebra}

@@ -14,7 +14,7 @@ use plan::{Shape, read};
 use recursion::Recursion;
 use refusal::Refusal;
 
-// Is each symbol accepted?
+// Is each symbol accepted? By `position` the proof would be twice as long, and the call no plainer.
 fn ask_symbols<R: Recursion>(r: &R, symbols: &[u32]) -> Result<(), Refusal>
     ensures { result ≡ asked (accepted (rule R.Element.Algebra R.Recursion r.now) symbols.now ∷ []) (record {}) }
 {

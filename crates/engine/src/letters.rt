@@ -20,15 +20,15 @@ use plan::Letter;
 use recursion::Recursion;
 
 // How many matrices stand, the place of the next symbol, and how many symbols were applied.
-#[derive(Clone, Copy)]
+#[derive(Clone, Copy, Default)]
 struct Standing {
     top: usize,
     next: usize,
     applied: usize,
 }
 
-// One letter of a plan, which finds what it needs. What is lent stands as parameters of its own, as in the public calls:
-// a struct of slices to write to would have to be lent anew at each call.
+// One letter of a plan, which finds what it needs. What is lent stands as parameters of its own, as in the public
+// calls: a struct of slices to write to would have to be lent anew at each call.
 fn turn<E: Algebra, R: Recursion<Element = E>, T: Target<E>>(
     r: &R,
     letter: Letter,
@@ -110,11 +110,7 @@ pub(crate) fn evaluate<E: Algebra, R: Recursion<Element = E>, T: Target<E>>(
     ensures block { Stands E.Algebra size.rows (chosen (rule E.Algebra R.Recursion r.now).entry symbols.now)
         work.new (after plan.now (length plan.now)).last }
 {
-    let mut stack = Standing {
-        top: 0,
-        next: 0,
-        applied: 0,
-    };
+    let mut stack = Standing::default();
     for code in plan {
         let letter = Letter::of(*code);
         stack = turn(r, letter, symbols, size, stack, target, buffer, work, row);

@@ -6,7 +6,8 @@ use crate::size::Size;
 use algebra::Algebra;
 use recursion::Recursion;
 
-// An entry of a symbol's matrix, in normal form.
+// An entry of a symbol's matrix, in normal form. A recursion and a symbol go together in this file
+// alone, so no type stands for both.
 fn element<R: Recursion>(r: &R, symbol: u32, i: usize, j: usize) -> R::Element
     ensures value { R.Element.Algebra.mean result ≡ R.Element.Algebra.mean (R.Recursion.cell r.now symbol i j) }
     ensures normal { R.Element.Algebra.normal result ≡ true }

@@ -36,12 +36,14 @@ fn add_row<E: Algebra>(out: &mut [E], a: E, b: &[E])
         ≡ E.Algebra.ops.add (means E.Algebra out.old p) (E.Algebra.ops.mul (E.Algebra.mean a) (means E.Algebra b.now p)))
         × Normal E.Algebra.normal out.new (length out.old) }
 {
+    // by place: a proof knows no element after `iter_mut().zip`
     for (p, x) in out.iter_mut().enumerate() {
         *x = x.accumulate(a, b[p]);
     }
 }
 
-// The row x times the matrix m, passing over what is zero in x.
+// The row x times the matrix m, passing over what is zero in x. It has no twin in the products by columns below, where
+// the other operand of a product stands left; and m is no `Matrix`, since nobody says that it is in normal form.
 fn row_times<E: Algebra>(size: Size, x: &[E], m: &[E], out: &mut [E])
     requires x_len { length x.now ≡ size.rows }
     requires m_len { length m.now ≡ size.rows * size.rows }
@@ -78,6 +80,8 @@ impl<'a, E: Algebra> Matrix<'a, E> {
     {
         self.elements[self.size.place(i, j)]
     }
+
+    // What these write to is a slice of just the size, and of no type of its own: it would be lent anew at each call.
 
     // How many entries are zero. By `filter` and `count` a frame takes up to 1.15 times as long.
     fn zeros(&self) -> usize {
@@ -159,7 +163,7 @@ impl<'a, E: Algebra> Matrix<'a, E> {
     }
 }
 
-// Puts a column into place j.
+// Puts a column into place j: a column is no slice that could be copied.
 fn put_column<E: Algebra>(size: Size, m: &mut [E], j: usize, column: &[E])
     requires m_len { length m.old ≡ size.rows * size.rows }
     requires j_inside { j < size.rows }

@@ -4,7 +4,8 @@ ghost use Rattle.engine.specs.Matrices.{Blocked};
 
 use algebra::Algebra;
 
-// A target is a value with a buffer that is lent beside it: of a run the state, of a frame path metrics and a store of rows.
+// A target is a value with a buffer that is lent beside it: of a run the state, of a frame path metrics and a store of
+// rows.
 pub trait Target<E: Algebra> {
     // what the lent buffer is made of
     type Kept;

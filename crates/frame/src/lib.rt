@@ -51,7 +51,8 @@ impl Frame {
     // Takes symbols under a plan, and answers how many and how many joins that made. Work area and row are as for a run.
     // Each letter a appends a row to the store. The questions are those of a delivery, in its order: 5, 6, 7 and 8 of the
     // plan, 2 of the symbols, 3 of the limit of 4,096 symbols; and 4: has the store a row for each letter a so far and to
-    // come, and do work area and row suffice? A refusal leaves everything as found.
+    // come, and do work area and row suffice? A refusal leaves everything as found. A run's take is no twin of this one: it
+    // has a target and a limit of its own, and what both do is `deliver`.
     pub fn take(
         &mut self,
         symbols: &[u32],

@@ -7,14 +7,14 @@ use frame::Frame;
 use refusal::Refusal;
 use std::alloc::{AllocError, Global};
 
-// An element that no take writes.
+// An element that no test's take writes.
 pub const MARK: Survivor = Survivor {
     word: 5,
     cost: 77,
     length: 6,
 };
 
-// The same for the words of a store and the bytes of a bit buffer.
+// A word that no test's take writes into a store, and a byte that no decode writes into a bit buffer.
 pub const WORD: u32 = 0xdead_beef;
 
 pub const BYTE: u8 = 9;

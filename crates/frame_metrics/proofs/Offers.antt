@@ -1,5 +1,5 @@
 -- A loop that offers each state what a row has for it.
-use Rattle.std.proofs.Common.{◌≡◌, ℕ, ◌+◌, ◌<◌, ◌≤◌, ◌≢◌, List, length, get_or, set, Some, None, Option, sym, refl, ap, ◌∙◌, subst, inl, inr, arith, get_or-set_other, get_or-set_same, below_more}
+use Rattle.std.proofs.Common.{◌≡◌, ℕ, ◌+◌, ◌<◌, ◌≤◌, ◌≢◌, List, length, get_or, set, Some, None, Option, sym, ap, ◌∙◌, subst, inl, inr, arith, get_or-set_other, get_or-set_same, below_more}
 use Rattle.std.proofs.lemmas.Bool.{cases_eq, le-leb, lt-leb}
 use Rattle.algebra_survivor.specs.declared.Survivor.{Survivor}
 use Rattle.algebra_survivor.specs.Survivors.{longest, none_row}
@@ -15,9 +15,6 @@ pub record Offered (row : List Survivor) (total : ℕ) (was : List (Option Offer
   pub low : (most q : ℕ) → total ≤ most → offer_high (get_or was q None) ≤ most + most_cost → offer_high (get_or now q None) ≤ most + most_cost
 
 module _ (row : List Survivor) (total : ℕ) (was : List (Option Offer)) where
-  pub none_offered : Offered row total was 0 was
-  none_offered = record { done = λ q h. absurd (omega arith); rest = λ q h. refl; low = λ most q h k. k }
-
   module _ (j : ℕ) (now : List (Option Offer)) (cell : Survivor) (is : cell ≡ get_or row j none_row) (so_far : Offered row total was j now) where
     -- a path is offered
     pub offered_more : (x : Offer) → j < length now → cell.length ≤ longest → cell.cost ≤ most_cost → x ≡ least (get_or now j None) (offered total cell)

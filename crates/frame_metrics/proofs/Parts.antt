@@ -1,14 +1,10 @@
--- What stands in a part of a list, and in one that was written.
+-- What stands in a part of a list that was written.
 use Rattle.std.proofs.Common.{◌≡◌, ℕ, ◌+◌, ◌-◌, ◌<◌, ◌≤◌, List, ◌++◌, length, get_or, take, drop, sym, ap, ◌∙◌, arith}
 use borrow.Rule.Slice.PartMut.{put_mid}
-use Rattle.std.proofs.lemmas.List.{get_or_append_left, get_or-append_right, get_or-drop, get_or-take, length-take-le}
+use Rattle.std.proofs.lemmas.List.{get_or_append_left, get_or-append_right, get_or-drop, length-take-le}
 
 module _ {X : Type 0} (z : X) where
-  -- in the part of k elements from place a
-  pub get_d_part : (xs : List X) (a b i : ℕ) → a + i < b → get_or (take (b - a) (drop a xs)) i z ≡ get_or xs (a + i) z
-  get_d_part xs a b i h = get_or-take (b - a) (drop a xs) i z (omega arith) ∙ get_or-drop a xs i z
-
-  -- in such a part that now holds ys
+  -- in a part of k elements from place a that now holds ys
   pub get_or_written : (a k : ℕ) (xs ys : List X) (i : ℕ) → a ≤ length xs → i < length ys → get_or (put_mid a k xs ys) (a + i) z ≡ get_or ys i z
   get_or_written a k xs ys i low h =
       let is : (a + i) - a ≡ i = omega arith in

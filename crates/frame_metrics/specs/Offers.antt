@@ -1,6 +1,7 @@
 -- What a state is offered, and the best of it: the least total, and of equal ones that of the lowest word.
 --   offered total cell         what a state of this total offers over a survivor
 --   better a b                 the better of two offers
+--   least o b                  the better of an offer, if there is one, and of the offer b
 --   offer_total o, offer_word o
 --                              the total and the word of an offer, none and 0 of no offer
 --   offer_high o               the total of an offer, 0 of no offer

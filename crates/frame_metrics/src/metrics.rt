@@ -3,7 +3,8 @@ ghost use Rattle.std.specs.Prelude.{◌≡◌, ℕ, ◌*◌, ◌<◌, ◌≤◌,
 ghost use Rattle.frame_rows.specs.Traces.{state_total, total_of};
 ghost use Rattle.frame_metrics.specs.Totals.{has_room, most_cost, most_rows};
 
-// The most states. Arrays have room for as many in every frame, since no call uses a heap.
+// The most states, as many as the rows of the engine's largest matrix. Arrays have room for as many in every frame, since
+// no call uses a heap.
 pub(crate) const STATES: usize = 64;
 
 // The most rows that may be written.

@@ -6,11 +6,10 @@ ghost use Rattle.frame_metrics.specs.Offers.{best_offer, bettered, least, offer_
 ghost use Rattle.frame_metrics.specs.Totals.{most_cost, most_rows};
 
 use crate::metrics::{Metrics, STATES};
-use algebra_survivor::Survivor;
-use plan::BLOCK;
+use algebra_survivor::{LONGEST, Survivor};
 
-// What a state is offered: the total that it would get, and the word of the path over the block. Offers are in the order
-// of their totals, and then of their words: the least is the best.
+// What a state is offered: the total that it would get, and the word of the path over the block. Offers are in the
+// order of their totals, and then of their words: the least is the best.
 #[derive(Clone, Copy, PartialEq, Eq, PartialOrd, Ord)]
 pub(crate) struct Offer {
     pub(crate) total: u32,
@@ -37,7 +36,7 @@ fn offer_row(total: u32, row: &[Survivor], best: &mut [Option<Offer>])
 {
     // by places, here and below: a proof does not know what an iterator over `&mut` elements beside another wrote
     for (j, cell) in row.iter().enumerate() {
-        if cell.length as usize <= BLOCK {
+        if cell.length <= LONGEST {
             let offer = Offer {
                 total: total + cell.cost as u32,
                 word: cell.word,

@@ -9,7 +9,8 @@ use algebra_survivor::Survivor;
 use plan::BLOCK;
 
 impl Metrics {
-    // Whether a block of so many symbols with a matrix of so many survivors may be selected from.
+    // Whether a block of so many symbols with a matrix of so many survivors may be selected from. The sizes
+    // stand beside the matrix, as the evaluator of plans hands them on.
     fn may_select(&self, d: usize, symbols: usize, survivors: usize, room: usize) -> bool
         ensures { result ≡ selection_allowed self.now.rows d symbols survivors room }
     {

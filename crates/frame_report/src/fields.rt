@@ -14,7 +14,7 @@ const FIELD: usize = 4;
 // The most fields of a line.
 const FIELDS: usize = LINE / FIELD;
 
-// The number in a field: blanks, and then at least one digit.
+// The number in a field: blanks, and then at least one digit. By digits: `parse` would take a sign, too.
 fn field_number(field: &[u8]) -> Option<u32>
     ensures { result ≡ number_of_field field.now }
 {

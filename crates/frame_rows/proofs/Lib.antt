@@ -1,4 +1,3 @@
-pub mod Rooms
 pub mod Traces
 pub mod Turns
 pub mod Questions

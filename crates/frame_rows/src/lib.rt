@@ -55,8 +55,8 @@ impl State {
         }
     }
 
-    // Traces one row back from this state: writes the input bits, one for each step that dropped a bit of this word, and
-    // answers the state before them.
+    // Traces one row back from this state: writes the input bits, one for each step that dropped a bit of this word,
+    // and answers the state before them.
     fn trace(self, word: u32, bits: &mut [u8]) -> State
         requires { length bits.old ≤ 32 }
         ensures code { result.code ≡ self.code }

@@ -14,7 +14,8 @@ pub enum Letter {
 
 impl Letter {
     // The letter of a byte of a plan. No byte but those of s, j and a is left once a plan was asked for its letters, so
-    // any byte but those of s and j is an a here.
+    // any byte but those of s and j is an a here. It is no `TryFrom`: every reading after the questions would have an
+    // error to handle that cannot come.
     pub fn of(code: u8) -> Letter
         ensures { result ≡ letter_of code }
     {

@@ -35,7 +35,7 @@ struct Tally {
     most: usize,
 }
 
-// Is every letter s, j or a?
+// Is every letter s, j or a? No `position` here and in the two questions below: one loop, one invariant is shorter.
 fn ask_letters(plan: &[u8]) -> Result<(), Refusal>
     ensures { result ≡ asked (knows plan.now ∷ []) (record {}) }
 {

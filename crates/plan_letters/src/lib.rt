@@ -5,7 +5,7 @@ ghost use Rattle.std.specs.Prelude.{◌≡◌, [], ◌∷◌, ◌++◌, IfOk, re
 
 use std::alloc::{AllocError, Global};
 
-// a symbol of its own, a join, and the end of a block
+// A plan is bytes, so its letters are too: a symbol of its own, a join, and the end of a block.
 const SINGLE: u8 = b's';
 
 const JOIN: u8 = b'j';

@@ -52,6 +52,7 @@ impl Bracketing {
     // The letters of one block.
     fn push_block(self, plan: &mut Vec<u8>, size: usize) -> Result<(), AllocError> {
         let mut standing = 0usize;
+        // i numbers the symbols, for the carries below, and is no index; letters are bytes, as a plan is
         for i in 1..=size {
             plan.push(b's')?;
             let joins = match self {

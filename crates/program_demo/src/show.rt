@@ -4,13 +4,10 @@ use algebra_scalars::{Bit, Count};
 use anyhow::anyhow;
 use code::by_name;
 use plan::BLOCK;
-use run_blocks::{Checked, check_by_blocks};
+use run_blocks::{Checked, PLACES, check_by_blocks};
 use run_check::check;
 use run_counter::Counter;
 use std::alloc::{AllocError, Global};
-
-// Places of the check register.
-const PLACES: usize = 33;
 
 // The bits of bytes, the lowest of each byte first.
 fn bits_of(heap: Global, bytes: &[u8]) -> Result<Vec<u8>, AllocError> {

@@ -3,6 +3,7 @@ use crate::fields;
 use anyhow::{Context, anyhow};
 use frame::Frame;
 use frame_desk::Desk;
+use plan::Letter;
 use refusal::Refusal;
 use std::alloc::Global;
 use std::fmt;
@@ -73,15 +74,16 @@ pub(crate) fn run<'a>(
     line: &'a str,
 ) -> anyhow::Result<(Subject<'a>, Tally)> {
     let fields: Vec<&'a str> = line.split(' ').collect(heap)?;
-    let [kind, code, symbols, plans, answers] = fields.as_slice() else {
+    let [kind, name, symbols, plans, answers] = fields.as_slice() else {
         return Err(anyhow!("a line is no case"));
     };
+    let code = fields::code(name)?;
     let subject = Subject {
-        code,
+        code: name,
         kind: kind.parse::<Kind>()?,
     };
     let symbols = fields::symbols(heap, symbols)?;
-    desk.frame = Frame::new(fields::code(code)?);
+    desk.frame = Frame::new(code);
     if !takes(desk, symbols.as_slice(), plans) {
         return Ok((subject, Tally::of(false)));
     }
@@ -97,7 +99,10 @@ fn takes(desk: &mut Desk, symbols: &[u32], plans: &str) -> bool {
     let mut rest = symbols;
     for plan in plans.split(',') {
         let plan = listed(plan).as_bytes();
-        let singles = plan.iter().filter(|letter| **letter == b's').count();
+        let singles = plan
+            .iter()
+            .filter(|letter| Letter::of(**letter) == Letter::Single)
+            .count();
         let Some((now, later)) = rest.split_at_checked(singles) else {
             return false;
         };

@@ -1,8 +1,9 @@
 // The four kinds of cases, and whether the library agrees.
-use crate::counts::{Delivery, Desk, numbers};
+use crate::counts::{Delivery, Desk, STATES, named, numbers};
 use algebra_scalars::{Bit, Count};
 use anyhow::anyhow;
 use run_check::check;
+use run_counter::Counter;
 use std::alloc::Global;
 use std::fmt;
 use vectors::bits;
@@ -37,15 +38,29 @@ pub(crate) fn run(heap: Global, desk: &mut Desk, line: &str) -> anyhow::Result<(
         ["crc", bits, value] => Ok((Kind::Check, agrees_check(heap, bits, value)?)),
         ["seq", start, _, bits] => Ok((Kind::Sequence, agrees_sequence(heap, start, bits)?)),
         ["count", code, start, symbols, plan, state, value] => {
+            let code = named(code)?;
             let mut start: Vec<Count> = numbers(heap, start)?.into_iter().map(Count).collect(heap)?;
-            let delivery = Delivery::read(heap, code, symbols, plan, state)?;
+            let delivery = Delivery::read(heap, symbols, plan)?;
+            // a take that is refused differs, whatever state is asked for and whatever is wanted there
+            let Ok(run) = delivery.run(code, start.as_mut_slice(), desk) else {
+                return Ok((Kind::Count, false));
+            };
             let wanted = value.parse::<u32>()?;
-            let found = delivery.count(start.as_mut_slice(), desk);
-            Ok((Kind::Count, found == Ok(wanted)))
+            let agrees = match run.read(state.parse::<usize>()?) {
+                Ok(Count(found)) => found == wanted,
+                Err(_) => false,
+            };
+            Ok((Kind::Count, agrees))
         }
         ["paths", code, symbols, plan, state, value] => {
-            let delivery = Delivery::read(heap, code, symbols, plan, state)?;
-            let agrees = match delivery.paths(desk) {
+            let delivery = Delivery::read(heap, symbols, plan)?;
+            let mut buffer = [Count(0); STATES];
+            let mut counter = Counter::over(named(code)?, &mut buffer);
+            // the same of a take that is refused
+            if delivery.count(&mut counter, desk).is_err() {
+                return Ok((Kind::Paths, false));
+            }
+            let agrees = match counter.count(state.parse::<usize>()?) {
                 Ok(Some(found)) => value.parse::<u32>() == Ok(found),
                 Ok(None) => *value == "absent",
                 Err(_) => false,

@@ -12,7 +12,8 @@ use vectors::listed;
 // Elements of the work area: 32 matrices of k3, and 9 of k7.
 const WORK: usize = 36_864;
 
-const STATES: usize = 64;
+// The states of k7, the larger code.
+pub(crate) const STATES: usize = 64;
 
 // What a take is lent.
 #[derive(Drop)]
@@ -30,10 +31,14 @@ impl Desk {
     }
 }
 
-// Decimal numbers between commas, or - for none.
+pub(crate) fn named(code: &str) -> anyhow::Result<Code> {
+    by_name(code).map_err(|_| anyhow!("a line names no code"))
+}
+
+// Decimal numbers between commas, or - for none; an empty field is no list.
 pub(crate) fn numbers(heap: Global, field: &str) -> anyhow::Result<Vec<u32>> {
-    match listed(field) {
-        "" => Ok(Vec::new(heap)),
+    match field {
+        "-" => Ok(Vec::new(heap)),
         list => list
             .split(',')
             .map(|part| -> anyhow::Result<u32> { Ok(part.parse::<u32>()?) })
@@ -41,34 +46,29 @@ pub(crate) fn numbers(heap: Global, field: &str) -> anyhow::Result<Vec<u32>> {
     }
 }
 
-// The symbols of a case, their plan, and the state that is asked for.
+// The symbols of a case, and their plan.
 #[derive(Drop)]
 pub struct Delivery<'a> {
-    code: Code,
     symbols: Vec<u32>,
     plan: &'a [u8],
-    state: usize,
 }
 
 impl<'a> Delivery<'a> {
-    pub(crate) fn read(
-        heap: Global,
-        code: &str,
-        symbols: &str,
-        plan: &'a str,
-        state: &str,
-    ) -> anyhow::Result<Delivery<'a>> {
+    pub(crate) fn read(heap: Global, symbols: &str, plan: &'a str) -> anyhow::Result<Delivery<'a>> {
         Ok(Delivery {
-            code: by_name(code).map_err(|_| anyhow!("a line names no code"))?,
             symbols: numbers(heap, symbols)?,
             plan: listed(plan).as_bytes(),
-            state: state.parse::<usize>()?,
         })
     }
 
-    // The count after a run from this start.
-    pub(crate) fn count(&self, start: &mut [Count], desk: &mut Desk) -> Result<u32, Refusal> {
-        let trellis = CountTrellis { code: self.code };
+    // A run from this start that took the symbols.
+    pub(crate) fn run<'b>(
+        &self,
+        code: Code,
+        start: &'b mut [Count],
+        desk: &mut Desk,
+    ) -> Result<Run<'b, Count>, Refusal> {
+        let trellis = CountTrellis { code };
         let mut run = Run::over(start);
         run.make(&trellis)?;
         run.take(
@@ -78,20 +78,17 @@ impl<'a> Delivery<'a> {
             desk.work.as_mut_slice(),
             &mut desk.row,
         )?;
-        let Count(found) = run.read(self.state)?;
-        Ok(found)
+        Ok(run)
     }
 
-    // The paths from 1 at state 0, if there are any.
-    pub(crate) fn paths(&self, desk: &mut Desk) -> Result<Option<u32>, Refusal> {
-        let mut buffer = [Count(0); STATES];
-        let mut counter = Counter::over(self.code, &mut buffer);
+    // Has a counter take the symbols. It is lent and not answered: a Result of one has no borrow check yet.
+    pub(crate) fn count(&self, counter: &mut Counter<'_>, desk: &mut Desk) -> Result<(), Refusal> {
         counter.take(
             self.symbols.as_slice(),
             self.plan,
             desk.work.as_mut_slice(),
             &mut desk.row,
         )?;
-        counter.count(self.state)
+        Ok(())
     }
 }

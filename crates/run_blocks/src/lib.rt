@@ -12,7 +12,7 @@ use recursion_bits::CheckRegister;
 use refusal::Refusal;
 
 // the places of the run's state: the register's bits, and one that stays 1
-const PLACES: usize = 33;
+pub const PLACES: usize = 33;
 
 // the places of the register's bits
 const BITS: usize = 32;

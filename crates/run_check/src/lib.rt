@@ -9,7 +9,7 @@ ghost use Rattle.run_check.specs.Shift.{shifted, shifts};
 use recursion_bits::POLYNOMIAL;
 use refusal::Refusal;
 
-// the most bits that are taken
+// the most bits that are taken: a limit of its own, as many as that of a run
 const LIMIT: usize = 1_000_000;
 
 // 32 ones, from which the register starts, and by which it is inverted

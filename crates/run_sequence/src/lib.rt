@@ -12,13 +12,13 @@ use algebra::Algebra;
 use algebra_scalars::Bit;
 use refusal::Refusal;
 
-// the most steps of one call
+// the most steps of one call: a limit of its own, as many as that of a run
 const LIMIT: usize = 1_000_000;
 
 // the stages, and so the places of the state
 const STAGES: usize = 9;
 
-// the place of the newest bit
+// the place of the newest bit; the recursion numbers its places itself, and shares no code with this shift
 const NEWEST: usize = 8;
 
 // Whether so many steps may be made on a state of so many elements.

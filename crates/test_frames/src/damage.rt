@@ -1,5 +1,6 @@
 // Decodes that are refused: states, buffers, and stores that are not a frame's.
-use crate::marks::{is_marked, k3, k7};
+use crate::marks::is_marked;
+use code::by_name;
 use frame::Frame;
 use frame_desk::{BYTE, MARK, WORD};
 use refusal::Refusal;
@@ -10,7 +11,7 @@ use std::test::Fail;
 // at a cost of 7. The buffers are arrays and no desk: the tests cut the store and write to places of it, which asks for
 // its length.
 fn framed(rt: &impl Abort, store: &mut [u32; 10]) -> Result<Frame, Fail> {
-    let mut frame = Frame::new(k3()?);
+    let mut frame = Frame::new(by_name("k3")?);
     let mut work = [MARK; 32];
     let mut row = [MARK; 4];
     assert_eq!(rt;
@@ -33,9 +34,21 @@ fn states(rt: HostRuntime) -> Result<(), Fail> {
     let frame = framed(&rt, &mut store)?;
     refuses(&rt, &frame, 4, &store, Refusal::Place);
     refuses(&rt, &frame, usize::MAX, &store, Refusal::Place);
-    refuses(&rt, &Frame::new(k7()?), 64, &store, Refusal::Place);
-    refuses(&rt, &Frame::new(k7()?), usize::MAX, &store, Refusal::Place);
-    refuses(&rt, &Frame::new(k7()?), 63, &store, Refusal::NoPath);
+    refuses(&rt, &Frame::new(by_name("k7")?), 64, &store, Refusal::Place);
+    refuses(
+        &rt,
+        &Frame::new(by_name("k7")?),
+        usize::MAX,
+        &store,
+        Refusal::Place,
+    );
+    refuses(
+        &rt,
+        &Frame::new(by_name("k7")?),
+        63,
+        &store,
+        Refusal::NoPath,
+    );
     Ok(())
 }
 
@@ -141,7 +154,7 @@ fn a_trace_that_misses_state_0(rt: HostRuntime) -> Result<(), Fail> {
 // State, memory, path, rows: after one symbol k3 has paths to 0 and 2 only.
 #[test]
 fn order_of_the_questions(rt: HostRuntime) -> Result<(), Fail> {
-    let mut frame = Frame::new(k3()?);
+    let mut frame = Frame::new(by_name("k3")?);
     let mut work = [MARK; 16];
     let mut row = [MARK; 4];
     let mut store = [WORD; 5];

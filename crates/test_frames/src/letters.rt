@@ -4,7 +4,8 @@ use std::alloc::{AllocError, Global};
 use std::iter::successors;
 use std::test::Fail;
 
-// The word of so many letters s, j and a that has this number: its digits to base 3.
+// The word of so many letters s, j and a that has this number: its digits to base 3. Its letters are bytes, for a plan
+// is bytes.
 fn spell(heap: Global, number: u32, letters: usize) -> Result<Vec<u8>, AllocError> {
     successors(Some(number), |rest| Some(*rest / 3))
         .map(|rest| match rest % 3 {

@@ -1,6 +1,6 @@
 // Frames of 4,096 symbols, and one more.
-use crate::marks::{is_untouched, k3, k7};
-use code::Code;
+use crate::marks::is_untouched;
+use code::{Code, by_name};
 use frame::LIMIT;
 use frame_desk::Desk;
 use plan_letters::nested;
@@ -39,12 +39,12 @@ fn full_and_one_more(rt: &(impl Abort + AllocGlobal), code: Code) -> Result<(), 
 
 #[test]
 fn k3_full_and_one_more(rt: HostRuntime) -> Result<(), Fail> {
-    full_and_one_more(&rt, k3()?)
+    full_and_one_more(&rt, by_name("k3")?)
 }
 
 #[test]
 fn k7_full_and_one_more(rt: HostRuntime) -> Result<(), Fail> {
-    full_and_one_more(&rt, k7()?)
+    full_and_one_more(&rt, by_name("k7")?)
 }
 
 // Gives 127 blocks of 32 symbols, each in a delivery of its own.
@@ -59,7 +59,7 @@ fn give_blocks(rt: &(impl Abort + AllocGlobal), desk: &mut Desk) -> Result<(), F
 // By deliveries up to 4,095; then two symbols are too many, and one is not.
 #[test]
 fn full_by_deliveries(rt: HostRuntime) -> Result<(), Fail> {
-    let mut desk = Desk::new(rt.alloc(), k3()?, 32, 159, LIMIT)?;
+    let mut desk = Desk::new(rt.alloc(), by_name("k3")?, 32, 159, LIMIT)?;
     give_blocks(&rt, &mut desk)?;
     answers_erased(&rt, &mut desk, 31, Ok((31, 0)))?;
     answers_erased(&rt, &mut desk, 2, Err(Refusal::Limit))?;
@@ -72,7 +72,7 @@ fn full_by_deliveries(rt: HostRuntime) -> Result<(), Fail> {
 // The limit is asked before the memory: as many as may be, and then one more, where the store has four rows.
 #[test]
 fn one_too_many_at_once(rt: HostRuntime) -> Result<(), Fail> {
-    let mut desk = Desk::new(rt.alloc(), k3()?, 1, 4, 0)?;
+    let mut desk = Desk::new(rt.alloc(), by_name("k3")?, 1, 4, 0)?;
     answers_erased(&rt, &mut desk, 4096, Err(Refusal::Memory))?;
     answers_erased(&rt, &mut desk, 4097, Err(Refusal::Limit))?;
     assert!(rt; is_untouched(&desk));
@@ -83,7 +83,7 @@ fn one_too_many_at_once(rt: HostRuntime) -> Result<(), Fail> {
 #[test]
 fn a_bad_symbol_past_the_limit(rt: HostRuntime) -> Result<(), Fail> {
     let heap = rt.alloc();
-    let mut desk = Desk::new(heap, k3()?, 1, 4, 0)?;
+    let mut desk = Desk::new(heap, by_name("k3")?, 1, 4, 0)?;
     let mut symbols = vec![in heap; 136u32; LIMIT]?;
     symbols.push(9)?;
     let plan = b"sa".repeat(heap, symbols.len())?;

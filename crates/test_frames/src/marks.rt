@@ -1,18 +1,8 @@
-// The codes, and what shows that nothing was written.
+// What shows that nothing was written.
 use algebra_survivor::Survivor;
-use code::{Code, by_name};
 use frame_desk::{BYTE, Desk, MARK, WORD};
-use std::test::Fail;
 
-pub(crate) fn k3() -> Result<Code, Fail> {
-    Ok(by_name("k3")?)
-}
-
-pub(crate) fn k7() -> Result<Code, Fail> {
-    Ok(by_name("k7")?)
-}
-
-// What a lent buffer is full of, and no test writes.
+// What a lent buffer is full of, and no test's take writes.
 pub(crate) trait Mark {
     fn is_mark(&self) -> bool;
 }

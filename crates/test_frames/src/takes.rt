@@ -1,5 +1,6 @@
 // Takes that are refused: the reason, its place, and that nothing is written.
-use crate::marks::{is_untouched, k3};
+use crate::marks::is_untouched;
+use code::by_name;
 use frame::Frame;
 use frame_desk::{Desk, MARK, WORD};
 use plan_letters::nested;
@@ -14,7 +15,7 @@ fn refuses(
     plan: &[u8],
     refusal: Refusal,
 ) -> Result<(), Fail> {
-    let mut desk = Desk::new(rt.alloc(), k3()?, 3, 3, 0)?;
+    let mut desk = Desk::new(rt.alloc(), by_name("k3")?, 3, 3, 0)?;
     assert_eq!(rt; desk.take(symbols, plan), Err(refusal));
     assert!(rt; is_untouched(&desk));
     assert_eq!(rt; desk.frame.decode(0, &[], &mut []), Ok(0));
@@ -99,7 +100,7 @@ fn asks_for(
 ) -> Result<(), Fail> {
     let heap = rt.alloc();
     let mut desk = Desk {
-        frame: Frame::new(k3()?),
+        frame: Frame::new(by_name("k3")?),
         work: vec![in heap; MARK; work]?,
         row: vec![in heap; MARK; row]?,
         store: vec![in heap; WORD; store]?,
@@ -130,7 +131,7 @@ fn empty_buffers(rt: HostRuntime) -> Result<(), Fail> {
 // The store needs a row for each letter a so far as well as to come. It ends within a row, so it is no desk's.
 #[test]
 fn a_store_that_is_full(rt: HostRuntime) -> Result<(), Fail> {
-    let mut frame = Frame::new(k3()?);
+    let mut frame = Frame::new(by_name("k3")?);
     let mut work = [MARK; 16];
     let mut row = [MARK; 4];
     let mut store = [WORD; 14];
@@ -156,7 +157,7 @@ fn a_store_that_is_full(rt: HostRuntime) -> Result<(), Fail> {
 // After a refusal a frame goes on as if nothing had been asked.
 #[test]
 fn a_refusal_between_two_takes(rt: HostRuntime) -> Result<(), Fail> {
-    let mut desk = Desk::new(rt.alloc(), k3()?, 2, 2, 3)?;
+    let mut desk = Desk::new(rt.alloc(), by_name("k3")?, 2, 2, 3)?;
     assert_eq!(rt; desk.take(&[119], b"sa"), Ok((1, 0)));
     assert_eq!(rt;
         desk.take(&[0, 0, 9], b"ssjasa"),

@@ -1,5 +1,5 @@
 // Worked lines.
-use crate::marks::k3;
+use code::by_name;
 use frame::Frame;
 use frame_desk::{BYTE, Desk, MARK, WORD};
 use refusal::Refusal;
@@ -15,7 +15,7 @@ fn decodes(
     cost: u32,
     wanted: &[u8],
 ) -> Result<(), Fail> {
-    let mut desk = Desk::new(rt.alloc(), k3()?, 4, 4, 4)?;
+    let mut desk = Desk::new(rt.alloc(), by_name("k3")?, 4, 4, 4)?;
     assert_eq!(rt; desk.take(symbols, plan), Ok((symbols.len(), joins)));
     assert_eq!(rt; desk.decode(0), Ok(cost));
     assert!(rt; desk.bits.starts_with(wanted));
@@ -45,7 +45,7 @@ fn a_tie_cut_after_its_first_step(rt: HostRuntime) -> Result<(), Fail> {
 // The same cut between two deliveries.
 #[test]
 fn a_tie_in_two_deliveries(rt: HostRuntime) -> Result<(), Fail> {
-    let mut desk = Desk::new(rt.alloc(), k3()?, 3, 2, 4)?;
+    let mut desk = Desk::new(rt.alloc(), by_name("k3")?, 3, 2, 4)?;
     assert_eq!(rt; desk.take(&[136], b"sa"), Ok((1, 0)));
     assert_eq!(rt; desk.take(&[120, 136, 136], b"sssjja"), Ok((3, 2)));
     assert_eq!(rt; desk.decode(0), Ok(0));
@@ -55,7 +55,7 @@ fn a_tie_in_two_deliveries(rt: HostRuntime) -> Result<(), Fail> {
 
 #[test]
 fn no_symbols(rt: HostRuntime) -> Result<(), Fail> {
-    let mut frame = Frame::new(k3()?);
+    let mut frame = Frame::new(by_name("k3")?);
     assert_eq!(rt;
         frame.take(&[], b"", &mut [], &mut [MARK; 4], &mut []),
         Ok((0, 0))
@@ -68,7 +68,7 @@ fn no_symbols(rt: HostRuntime) -> Result<(), Fail> {
 // A frame answers before any take, whatever the store holds, and writes no bit.
 #[test]
 fn a_frame_asked_before_any_symbol(rt: HostRuntime) -> Result<(), Fail> {
-    let frame = Frame::new(k3()?);
+    let frame = Frame::new(by_name("k3")?);
     let mut bits = [BYTE; 3];
     assert_eq!(rt; frame.decode(0, &[WORD; 7], &mut bits), Ok(0));
     assert_eq!(rt;
@@ -84,7 +84,7 @@ fn a_frame_asked_before_any_symbol(rt: HostRuntime) -> Result<(), Fail> {
 // is no desk's.
 #[test]
 fn bytes_past_the_last_step(rt: HostRuntime) -> Result<(), Fail> {
-    let mut frame = Frame::new(k3()?);
+    let mut frame = Frame::new(by_name("k3")?);
     let mut work = [MARK; 48];
     let mut row = [MARK; 4];
     let mut store = [WORD; 7];

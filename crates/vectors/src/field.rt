@@ -1,30 +1,20 @@
-// Fields of a case, which list what a dash stands for none of.
-ghost use Rattle.std.specs.Prelude.{◌≡◌, ℕ, All, map, IfOk, IsErrOf};
-ghost use Rattle.vectors.specs.Lines.{IsDigit, bit, listing};
+// What the fields of a case hold: a list, or a dash where there is nothing to list.
+ghost use Rattle.std.specs.Prelude.{◌≡◌, ℕ, All, map, filter, IfOk, IsErrOf};
+ghost use Rattle.vectors.specs.Lines.{IsDigit, bit, listing, no_dash};
 ghost use Rattle.vectors.specs.declared.field.FieldError.TheVariants.{OutOfMemory};
 
 use std::alloc::{AllocFailed, Global};
-use std::error::Error;
-use std::fmt;
+use thiserror::Error;
 
-#[derive(Clone, Copy, PartialEq, Eq, Debug)]
+#[derive(Clone, Copy, PartialEq, Eq, Debug, Error)]
 pub enum FieldError {
-    // a field of bits has another character than 0 and 1
+    #[error("a field of bits has another character")]
     Character,
+    #[error("out of memory")]
     OutOfMemory,
 }
 
-impl fmt::Display for FieldError {
-    fn fmt<W: fmt::Write>(&self, f: &mut fmt::Formatter<W>) -> fmt::Result {
-        match self {
-            FieldError::Character => write!(f, "a field of bits has another character"),
-            FieldError::OutOfMemory => write!(f, "out of memory"),
-        }
-    }
-}
-
-impl Error for FieldError {}
-
+// By hand: the derive's From has no contract, and bits says which error comes when.
 impl<T: Drop> From<AllocFailed<T>> for FieldError {
     ghost from_gives = { λ _ e. e ≡ OutOfMemory };
 
@@ -43,17 +33,18 @@ pub fn listed(field: &str) -> &str
     }
 }
 
-// The bits of a field of characters 0 and 1, or - for none.
+// The bits of a field of characters 0 and 1, where a dash stands for no bit.
 pub fn bits(heap: Global, field: &str) -> Result<Vec<u8>, FieldError>
-    ensures digits { IfOk result (λ bits. All IsDigit (listing field.now)) }
-    ensures bits { IfOk result (λ bits. bits.items ≡ map bit (listing field.now)) }
-    ensures refused { IsErrOf result FieldError.Character → All IsDigit (listing field.now) → ⊥ }
+    ensures digits { IfOk result (λ bits. All IsDigit (filter no_dash field.now)) }
+    ensures bits { IfOk result (λ bits. bits.items ≡ map bit (filter no_dash field.now)) }
+    ensures refused { IsErrOf result FieldError.Character → All IsDigit (filter no_dash field.now) → ⊥ }
 {
     let mut bits = Vec::new(heap);
-    for digit in listed(field).bytes() {
-        match digit {
+    for character in field.bytes() {
+        match character {
             b'0' => bits.push(0)?,
             b'1' => bits.push(1)?,
+            b'-' => {}
             _ => return Err(FieldError::Character),
         }
     }

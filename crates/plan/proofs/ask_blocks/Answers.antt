@@ -5,18 +5,6 @@ use Rattle.refusal.proofs.Questions.{asked_yes, asked_no}
 use Rattle.plan.specs.Asks.{finds, fits, height, makes}
 use Rattle.plan.proofs.ask_blocks.Goals as goal
 
-pub is_block-requires : goal.is_block-requires
-is_block-requires c =
-    let plan = c.args.plan.now in
-    let p = c.loop-place.place in
-    let served-here : finds plan p ≡ true = c.requires p c.loop-place-test.true in
-    let two : 2 ≤ height plan p = grind (arith, nat_tests) in
-    record {
-      place_in_bounds = omega arith;
-      by_index = (λ q h. c.requires q (omega arith));
-      bound = two;
-    }
-
 pub returns-then-not-is_block : goal.returns-then-not-is_block
 returns-then-not-is_block c =
     let plan = c.args.plan.now in

@@ -15,14 +15,6 @@ returns-then-not-is_served c =
     let short : finds plan c.loop-place.place ≡ false = found_by plan c.loop-place.place _ _ c.of-letter.ensures c.loop-place.invariant.standing c.if-not-is_served.ensures in
     sym (asked_no (stands plan) [] _ c.loop-place.place c.loop-place-test.true short c.loop-place.invariant.found)
 
-pub with-tally-requires : goal.with-tally-requires
-with-tally-requires c = let i = c.loop-place.invariant in record {
-  standing_value = sym c.if-not-is_served.ensures;
-  singles_bound = search rules;
-  joins_bound = search rules;
-  standing_bound = search rules;
-}
-
 pub loop-place-preserved : goal.loop-place-preserved
 loop-place-preserved c =
     let plan = c.args.plan.now in

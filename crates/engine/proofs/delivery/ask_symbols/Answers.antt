@@ -10,8 +10,5 @@ returns-then-not-accepts g c =
     sym (asked_no (accepted (rule g.R.Element.Algebra g.R.Recursion c.args.r.now) c.args.symbols.now) [] _ c.loop-place.place c.loop-place-test.true
     (sym c.if-not-accepts.ensures) c.loop-place.invariant)
 
-pub loop-place-preserved : goal.loop-place-preserved
-loop-place-preserved g c = below_more _ _ c.loop-place.invariant (sym c.if-not-accepts.ensures)
-
 pub returns : goal.returns
 returns g c = sym (asked_yes (accepted (rule g.R.Element.Algebra g.R.Recursion c.args.r.now) c.args.symbols.now) [] _ (λ p h. c.loop-place.invariant p (omega arith)))

@@ -28,26 +28,6 @@ module _ (plan : List ℕ) (n : ℕ) (s : Shape) (passed : asked (asks plan n) (
       let e = blocks_are plan (all_known plan n (shape plan) s passed) (all_found plan n (shape plan) s passed) (none_left plan n (shape plan) s passed) in
       omega (arith, e, joins_are, all_singles plan n (shape plan) s passed)
 
-pub returns-in_err-shape : goal.returns-in_err-shape
-returns-in_err-shape g c =
-    let p = err_from_is_err_and c.from_residual.result c.from_residual.ensures.1 in
-    let is : c.from_residual.result ≡ Err c.in_err-shape.field-0.0 = p.1 ∙ ap Err p.2 in
-    record {
-      answer = is ∙ sym (says_plan (rule g.E.Algebra g.R.Recursion c.args.r.now) c.args.symbols.now c.args.plan.now _ _ _ _ _ _ c.in_err-shape.ensures);
-      delivered = subst (λ o. Delivered g.T.Target.Applied g.E.Algebra (rule g.E.Algebra g.R.Recursion c.args.r.now) c.args.symbols.now c.args.plan.now
-          c.args.target.now c.args.buffer.now c.args.work.now c.args.row.now o c.args.target.now c.args.buffer.now c.args.work.now c.args.row.now) (sym is) (refl, refl, refl, refl);
-    }
-
-pub returns-in_err-ask_symbols : goal.returns-in_err-ask_symbols
-returns-in_err-ask_symbols g c =
-    let p = err_from_is_err_and c.from_residual-in_err-ask_symbols.result c.from_residual-in_err-ask_symbols.ensures.1 in
-    let is : c.from_residual-in_err-ask_symbols.result ≡ Err c.in_err-ask_symbols.field-0.0 = p.1 ∙ ap Err p.2 in
-    record {
-      answer = is ∙ sym (says_symbol (rule g.E.Algebra g.R.Recursion c.args.r.now) c.args.symbols.now c.args.plan.now _ _ _ _ _ _ c.in_ok-shape.ensures _ _ c.in_err-ask_symbols.ensures);
-      delivered = subst (λ o. Delivered g.T.Target.Applied g.E.Algebra (rule g.E.Algebra g.R.Recursion c.args.r.now) c.args.symbols.now c.args.plan.now
-          c.args.target.now c.args.buffer.now c.args.work.now c.args.row.now o c.args.target.now c.args.buffer.now c.args.work.now c.args.row.now) (sym is) (refl, refl, refl, refl);
-    }
-
 pub returns-then-not-is_within : goal.returns-then-not-is_within
 returns-then-not-is_within g c = record {
   answer = sym (says_limit (rule g.E.Algebra g.R.Recursion c.args.r.now) c.args.symbols.now c.args.plan.now _ _ _ _ _ _ c.in_ok-shape.ensures _ _ c.in_ok-ask_symbols.ensures (sym c.if-not-is_within.ensures));

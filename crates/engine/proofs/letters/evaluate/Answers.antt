@@ -1,5 +1,5 @@
 -- Letter by letter, target and work area follow the plan.
-use Rattle.std.proofs.Common.{◌≡◌, ℕ, ◌+◌, ◌-◌, true, length, get_or, sym, refl, ap, ◌∙◌, subst, arith}
+use Rattle.std.proofs.Common.{◌≡◌, ℕ, ◌+◌, ◌-◌, ◌*◌, true, length, get_or, sym, refl, ap, ◌∙◌, subst, arith}
 use Rattle.std.proofs.lemmas.List.{nil_from_length}
 use Rattle.plan.specs.Letters.{code}
 use Rattle.plan.specs.Plans.{after, letter}
@@ -15,8 +15,16 @@ use Rattle.engine.proofs.Readies.{ready, counts, small_block}
 use Rattle.engine.proofs.letters.evaluate.Goals as goal
 
 pub loop-code-init : goal.loop-code-init
-loop-code-init g c = (
-  record { topped = refl; nexted = refl; counted = refl; stands = tt; normal = λ p h. absurd (omega arith); left = λ _. tt; fed = untouched },
+loop-code-init g c = let e = c.default-stack.ensures in (
+  record {
+    topped = e.0;
+    nexted = e.1.0;
+    counted = omega (arith, e.1.0, e.1.1);
+    stands = tt;
+    normal = λ p h. absurd (omega (arith, ap (λ n. n * (c.args.size.rows * c.args.size.rows)) e.0));
+    left = λ _. tt;
+    fed = untouched;
+  },
   refl,
   refl,
   refl,

@@ -29,11 +29,6 @@ returns-then-length-eq0 c =
     ∙ sound_fails c.args.self.now.end.code c.args.self.now.store.now c.loop-row.invariant.rows.count c.loop-row.state.number _ _ row.some row.steps (row.word _ (inside (goal.at.returns-then-length-eq0 c).In-Some))
     c.loop-row.left (λ p q r. elim c.then-length-eq0.either [ inl a ↦ omega arith | inr b ↦ elim b [ inl x ↦ omega arith | inr y ↦ omega arith ] ]))
 
-pub bounds-row-state : goal.bounds-row-state
-bounds-row-state c =
-    let low = inside (goal.at.bounds-row-state c).In-Some in
-    omega (arith, (latest (goal.at.bounds-row-state c).In-Some).long)
-
 pub loop-row-preserved : goal.loop-row-preserved
 loop-row-preserved c =
     let here = (goal.at.loop-row-preserved c).In-Some in

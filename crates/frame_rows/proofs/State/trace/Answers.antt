@@ -1,16 +1,9 @@
 -- Each turn takes one step back.
-use Rattle.std.proofs.Common.{◌≡◌, ◌-◌, ◌/◌, ◌%◌, ◌^◌, ◌++◌, length, sym, refl, ap, ◌∙◌, append-nil, arith}
-use Rattle.std.proofs.lemmas.List.{drop_all}
+use Rattle.std.proofs.Common.{◌≡◌, ◌-◌, ◌/◌, ◌%◌, ◌^◌, length, ◌∙◌, arith}
 use Rattle.code.specs.Codes.{input}
-use Rattle.frame_paths.specs.Rows.{prior, traced}
+use Rattle.frame_paths.specs.Rows.{prior}
 use Rattle.frame_rows.proofs.Traces.{one_back, trace_turn}
 use Rattle.frame_rows.proofs.State.trace.Goals as goal
-
-pub loop-t-init : goal.loop-t-init
-loop-t-init c =
-    let bits = c.args.bits.now in
-    let path = traced c.args.self.code (length bits) c.args.self.number c.args.word in
-    record { code = refl; before = refl; path = sym (ap (λ l. path ++ l) (drop_all (length bits) bits (omega arith)) ∙ append-nil path) }
 
 pub loop-t-preserved : goal.loop-t-preserved
 loop-t-preserved c =

@@ -46,12 +46,6 @@ module _ (c : In-Some-total) where
   total_low : c.in-Some-total.total ≤ most_cost * c.args.self.now.rows
   total_low = subst (λ (o : Option ℕ). unwrap_or o 0 ≤ most_cost * c.args.self.now.rows) total_is (c.args.self.now.low c.loop-total.invariant.left.place)
 
-pub offer_row-requires : goal.offer_row-requires
-offer_row-requires c =
-    let low = total_low (goal.at.offer_row-requires c).In-Some-total in
-    let long = (next (goal.at.offer_row-requires c).In-Some).long in
-    record { total_bound = omega (arith, low, c.args.self.now.few); row_in_bounds = omega (arith, long, c.loop-total.invariant.long, c.requires.d_bound) }
-
 pub loop-total-preserved-in-Some-total : goal.loop-total-preserved-in-Some-total
 loop-total-preserved-in-Some-total c =
     let came = next (goal.at.loop-total-preserved-in-Some-total c).In-Some in

@@ -10,18 +10,9 @@ use Rattle.frame_metrics.specs.Offers.{best_offer, offer_total, offer_word}
 use Rattle.frame_metrics.specs.Metrics.{entries}
 use Rattle.frame_metrics.proofs.Bests.{best_gets}
 use Rattle.frame_metrics.proofs.Parts.{get_or_written}
-use Rattle.frame_metrics.proofs.Rooms.{may_not, may_parts, room_after, room_for, room_less}
+use Rattle.frame_metrics.proofs.Rooms.{may_parts, room_after, room_for}
 use Rattle.frame_metrics.proofs.Selects.{low_after, others_stay, total_is}
 use Rattle.frame_metrics.proofs.metrics.Metrics.select.Goals as goal
-
-pub returns-then-not-may_select : goal.returns-then-not-may_select
-returns-then-not-may_select c =
-    let was = c.args.self.now in record {
-      selected = λ room small square short fine. absurd (may_not was.rows c.args.d c.args.symbols (length c.args.matrix.now) (length c.args.store.now) c.if-not-may_select.ensures room small square short);
-      stays = λ e. (refl, refl);
-      long = refl;
-      room = λ n. room_less was.rows c.args.d (length c.args.store.now) n;
-    }
 
 pub invariant_of-self : goal.invariant_of-self
 invariant_of-self c =
