@@ -231,10 +231,11 @@ void baseline_take(baseline_frame *frame, const uint32_t *symbols, const uint8_t
     frame->steps += next;
 }
 
-// The state before a step that ended in this state and dropped this bit.
-static inline size_t prior(size_t state, uint32_t dropped)
+// The state before so many steps that ended in this state and dropped the bits of this word, the earliest lowest.
+static inline size_t before(size_t state, uint32_t steps, uint32_t word)
 {
-    return state % (STATES / 2) * 2 + dropped;
+    uint64_t weight = (uint64_t)1 << steps;
+    return (state * weight + word % weight) % STATES;
 }
 
 // Whether the rows are those of the frame: lengths of 1 to 32, all steps together, and a trace that reaches state 0.
@@ -243,12 +244,11 @@ static int is_sound(const baseline_frame *frame, size_t state, const uint32_t *s
     size_t left = frame->steps;
     for (size_t k = frame->rows; k-- > 0;) {
         const uint32_t *row = store + k * ROW_WORDS;
-        uint32_t length = row[0], word = row[1 + state];
+        uint32_t length = row[0];
         if (length < 1 || length > LONGEST || length > left)
             return 0;
         left -= length;
-        for (uint32_t t = length; t-- > 0;)
-            state = prior(state, word >> t & 1);
+        state = before(state, length, row[1 + state]);
     }
     return left == 0 && state == 0;
 }
@@ -264,7 +264,7 @@ uint32_t baseline_decode(const baseline_frame *frame, size_t state, const uint32
         uint32_t word = row[1 + state];
         for (uint32_t t = row[0]; t-- > 0;) {
             bits[--end] = (uint8_t)(state / (STATES / 2));
-            state = prior(state, word >> t & 1);
+            state = before(state, 1, word >> t);
         }
     }
     return total;

@@ -84,7 +84,9 @@ impl<'a, E: Algebra> Matrix<'a, E> {
     // What these write to is a slice of just the size, and of no type of its own: it would be lent anew at each call.
 
     // How many entries are zero. By `filter` and `count` a frame takes up to 1.15 times as long.
-    fn zeros(&self) -> usize {
+    fn zeros(&self) -> usize
+        ensures { result ≤ length self.now.elements.now }
+    {
         let mut count = 0;
         for x in self.elements {
             if x.is_zero() {

@@ -78,6 +78,8 @@ impl Desk {
         ensures traced { Traced self.old.frame state self.old.store.items self.old.bits.items result self.new.bits.items }
         ensures frame { self.new.frame ≡ self.old.frame }
         ensures store { self.new.store.items ≡ self.old.store.items }
+        ensures work { self.new.work.items ≡ self.old.work.items }
+        ensures row { self.new.row.items ≡ self.old.row.items }
     {
         self.frame
             .decode(state, self.store.as_slice(), self.bits.as_mut_slice())

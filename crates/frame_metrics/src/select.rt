@@ -32,14 +32,17 @@ impl Metrics {
         if !self.may_select(d, symbols, matrix.len(), store.len()) {
             return;
         }
-        let best = self.best_offers(matrix, d);
-        settle(&best[..d], &mut self.totals);
+        // on a copy: where a loop goes over the totals of a frame itself, a compiler cannot hold its code as a constant
+        let mut after = *self;
+        let best = after.best_offers(matrix, d);
+        settle(&best[..d], &mut after.totals);
         let start = self.rows * (1 + d);
         write_row(
             &best[..d],
             symbols as u32,
             &mut store[start..start + (1 + d)],
         );
-        self.rows += 1;
+        after.rows += 1;
+        *self = after;
     }
 }

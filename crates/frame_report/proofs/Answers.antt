@@ -63,16 +63,13 @@ module _ (plan line : List ℕ) where
   pub long_text : short plan && short line ≡ false → asked {A = Unit} (text_asks plan line) tt ≡ Err (Text 0)
   long_text long = asked_no (once (short plan && short line) (Text 0)) (fields line ∷ []) tt 0 (omega arith) long (λ k h. absurd (omega arith))
 
-  pub bad_field : (e : Refusal) → short plan && short line ≡ true → asked (fields line ∷ []) (numbers line) ≡ Err e → asked {A = Unit} (text_asks plan line) tt ≡ Err e
-  bad_field e both bad =
-      asked_yes (once (short plan && short line) (Text 0)) (fields line ∷ []) tt (λ k h. both) ∙ asked_first [] (numbers line) (numbers line) tt (fields line ∷ []) e bad
+  pub bad_field : (n : ℕ) (e : Refusal) → short plan && short line ≡ true → Err e ≡ asked (fields line ∷ []) n → asked {A = Unit} (text_asks plan line) tt ≡ Err e
+  bad_field n e both bad =
+      asked_yes (once (short plan && short line) (Text 0)) (fields line ∷ []) tt (λ k h. both) ∙ asked_first [] n n tt (fields line ∷ []) e (sym bad)
 
-  pub good_text : (ys : List ℕ) → short plan && short line ≡ true → asked (fields line ∷ []) (numbers line) ≡ Ok ys
-      → (asked {A = Unit} (text_asks plan line) tt ≡ Ok tt) × (ys ≡ numbers line)
-  good_text ys both good = (
-    asked_yes (once (short plan && short line) (Text 0)) (fields line ∷ []) tt (λ k h. both) ∙ asked_rest [] (numbers line) ys tt (fields line ∷ []) good,
-    same_answer ys (numbers line) (sym good ∙ asked_rest [] (numbers line) ys (numbers line) (fields line ∷ []) good),
-  )
+  pub good_text : (n m : ℕ) → short plan && short line ≡ true → Ok m ≡ asked (fields line ∷ []) n → asked {A = Unit} (text_asks plan line) tt ≡ Ok tt
+  good_text n m both good =
+      asked_yes (once (short plan && short line) (Text 0)) (fields line ∷ []) tt (λ k h. both) ∙ asked_rest [] n m tt (fields line ∷ []) (sym good)
 
   module _ (p : Plain) where
     pub refused_text : (e : Refusal) → asked {A = Unit} (text_asks plan line) tt ≡ Err e → (answered p (plan, line) ≡ Err e) × (kept p (plan, line) ≡ p)

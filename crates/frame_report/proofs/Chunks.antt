@@ -3,7 +3,7 @@ use Rattle.std.proofs.Common.{◌≡◌, ℕ, ◌+◌, ◌-◌, ◌*◌, ◌<◌
 use Rattle.std.specs.List.{range_with_len}
 use Rattle.std.proofs.lemmas.Bool.{cases_lt}
 use Rattle.std.proofs.lemmas.List.{take_all, take_at, drop_all, drop_at, drop-drop, nil_from_length}
-use Rattle.std.proofs.lemmas.List.FromFn.{length-map-range_with_len, map-range_with_len_more}
+use Rattle.std.proofs.lemmas.List.FromFn.{map-range_with_len_more}
 use Rattle.refusal.specs.declared.Refusal.TheVariants.{Text}
 use Rattle.refusal.specs.Questions.{asked}
 use Rattle.refusal.proofs.Questions.{asked_yes, asked_no}
@@ -20,14 +20,12 @@ module _ (line rest : List ℕ) (n : ℕ) (read : List ℕ) (r : Reading line re
   pub left_length : length rest ≡ length line - 4 * n
   left_length = ap length r.left ∙ length-drop (4 * n) line
 
-  pub read_length : length read ≡ n
-  read_length = ap length r.so_far ∙ length-map-range_with_len (number_at line) 0 n
-
-  pub reading_all : length rest ≡ 0 → (read ≡ numbers line) × (asked (fields line ∷ []) (numbers line) ≡ Ok (numbers line))
+  -- where nothing is left, all fields are read
+  pub reading_all : length rest ≡ 0 → (n ≡ field_count line) × ((read ≡ numbers line) × (asked (fields line ∷ []) (field_count line) ≡ Ok (field_count line)))
   unfolding numbers
   reading_all none =
       let count : n ≡ field_count line = omega (arith, left_length, r.begun) in
-      (r.so_far ∙ ap (λ (m : ℕ). map (number_at line) (range_with_len 0 m)) count, asked_yes (fields line) [] (numbers line) (λ k h. r.good k (omega arith)))
+      (count, (r.so_far ∙ ap (λ (m : ℕ). map (number_at line) (range_with_len 0 m)) count, asked_yes (fields line) [] (field_count line) (λ k h. r.good k (omega arith))))
 
   module _ (chunk rest' : List ℕ) (parts : rest ≡ chunk ++ rest') (long : length chunk ≡ min 4 (length rest)) (some : 0 < length rest) where
     sum : length rest ≡ length chunk + length rest'
@@ -62,6 +60,6 @@ module _ (line rest : List ℕ) (n : ℕ) (read : List ℕ) (r : Reading line re
               ∙ sym (map-range_with_len_more (number_at line) 0 n n (omega arith));
         }
 
-    pub reading_stops : number_of_field chunk ≡ None → asked (fields line ∷ []) (numbers line) ≡ Err (Text n)
+    pub reading_stops : number_of_field chunk ≡ None → asked (fields line ∷ []) (field_count line) ≡ Err (Text n)
     reading_stops is =
-        asked_no (fields line) [] (numbers line) n (omega (arith, left_length)) (ap (λ f. is_some (number_of_field f)) (sym this_field) ∙ ap is_some is) r.good
+        asked_no (fields line) [] (field_count line) n (omega (arith, left_length)) (ap (λ f. is_some (number_of_field f)) (sym this_field) ∙ ap is_some is) r.good

@@ -7,7 +7,7 @@ ghost use Rattle.frame_report.specs.Follows.{Closes, Follows, Gave, Listed, Show
 ghost use Rattle.frame_report.specs.Lines.{deliveries, lines as all_lines};
 
 use crate::columns::{Decoded, Delivered, Refused};
-use crate::fields::read_numbers;
+use crate::fields::{FIELDS, read_numbers};
 use crate::lines::{Deliveries, Delivery, LINE};
 use algebra_survivor::Survivor;
 use code::Code;
@@ -34,23 +34,18 @@ const UNUSED: Survivor = Survivor {
 // The state that every path starts in, and that is decoded.
 const STATE: usize = 0;
 
-// A frame of the code k3 with the memory that it works in.
+// The memory that a frame of the code k3 works in. The frame is no field of it: beside the work area in one struct, a take
+// reads the code again for each entry, and a full frame takes 1.4 times as long.
 #[derive(Drop)]
-struct Decoder {
-    frame: Frame,
+struct Memory {
     work: [Survivor; WORK],
     row: [Survivor; STATES],
     store: [u32; STORE],
 }
 
-impl Decoder {
-    // A decoder with a fresh frame.
-    fn new(code: Code) -> Decoder
-        requires { code ≡ k3 }
-        ensures { Follows nothing result.frame result.store }
-    {
-        Decoder {
-            frame: Frame::new(code),
+impl Memory {
+    fn new() -> Memory {
+        Memory {
             work: [UNUSED; WORK],
             row: [UNUSED; STATES],
             store: [0; STORE],
@@ -58,17 +53,18 @@ impl Decoder {
     }
 
     // Gives a delivery to the frame, after the questions of its text.
-    fn give(&mut self, delivery: Delivery) -> Result<(usize, usize), Refusal>
-        ensures { Gave (delivery.entry.plan.now, delivery.entry.symbols.now) self.old.frame self.old.store result
-            self.new.frame self.new.store }
+    fn give(&mut self, frame: &mut Frame, delivery: Delivery) -> Result<(usize, usize), Refusal>
+        ensures { Gave (delivery.entry.plan.now, delivery.entry.symbols.now) frame.old self.old.store result
+            frame.new self.new.store }
     {
         let Delivery { plan, symbols } = delivery;
         if plan.len() > LINE || symbols.len() > LINE {
             return Err(Refusal::Text { place: 0 });
         }
-        let numbers = read_numbers(symbols)?;
-        self.frame.take(
-            numbers.as_slice(),
+        let mut numbers = [0; FIELDS];
+        let count = read_numbers(symbols, &mut numbers)?;
+        frame.take(
+            &numbers[..count],
             plan,
             &mut self.work,
             &mut self.row,
@@ -77,27 +73,32 @@ impl Decoder {
     }
 
     // Writes the line of each delivery of a text.
-    fn write_deliveries(&mut self, text: &[u8], out: &mut String) -> Result<(), AllocError>
-        requires fresh { Follows nothing self.old.frame self.old.store }
+    fn write_deliveries(
+        &mut self,
+        frame: &mut Frame,
+        text: &[u8],
+        out: &mut String,
+    ) -> Result<(), AllocError>
+        requires fresh { Follows nothing frame.old self.old.store }
         ensures { OnOk result (Listed (deliveries (all_lines text.now)) (string_bytes out.old) (string_bytes out.new)
-            self.new.frame self.new.store) }
+            frame.new self.new.store) }
     {
         for delivery in Deliveries(text) {
-            let answer = self.give(delivery);
+            let answer = self.give(frame, delivery);
             write!(out, "{}", Delivered(answer))?;
         }
         Ok(())
     }
 
     // Writes the closing line.
-    fn write_closing(&self, out: &mut String) -> Result<(), AllocError>
-        requires { self.now.frame.steps ≤ LIMIT }
-        ensures { OnOk result ((p : Plain) → Follows p self.now.frame self.now.store → Bounded p
+    fn write_closing(&self, frame: &Frame, out: &mut String) -> Result<(), AllocError>
+        requires { frame.now.steps ≤ LIMIT }
+        ensures { OnOk result ((p : Plain) → Follows p frame.now self.now.store → Bounded p
             → Closes p.symbols (string_bytes out.old) (string_bytes out.new)) }
     {
-        let steps = self.frame.steps();
+        let steps = frame.steps();
         let mut bits = [0; LIMIT];
-        match self.frame.decode(STATE, &self.store, &mut bits) {
+        match frame.decode(STATE, &self.store, &mut bits) {
             Ok(cost) => {
                 let bits = &bits[..steps];
                 write!(out, "{}", Decoded { cost, bits })
@@ -112,7 +113,8 @@ pub(crate) fn write_frame(code: Code, text: &[u8], out: &mut String) -> Result<(
     requires { code ≡ k3 }
     ensures { OnOk result (Shows (deliveries (all_lines text.now)) (string_bytes out.old) (string_bytes out.new)) }
 {
-    let mut decoder = Decoder::new(code);
-    decoder.write_deliveries(text, out)?;
-    decoder.write_closing(out)
+    let mut frame = Frame::new(code);
+    let mut memory = Memory::new();
+    memory.write_deliveries(&mut frame, text, out)?;
+    memory.write_closing(&frame, out)
 }

@@ -1,18 +1,16 @@
 // Fields of four columns.
-ghost use Rattle.std.specs.Prelude.{◌≡◌, ◌≤◌, [], ◌∷◌, length};
-ghost use Rattle.std.specs.Result.{result_map_both};
+ghost use Rattle.std.specs.Prelude.{◌≡◌, ◌*◌, ◌≤◌, [], ◌∷◌, length, take, IfOk};
 ghost use Rattle.refusal.specs.Questions.{asked};
-ghost use Rattle.frame_report.specs.Fields.{number_of_field, fields as each_field, numbers as all_numbers};
+ghost use Rattle.frame_report.specs.Fields.{field_count, number_of_field, fields as each_field, numbers as all_numbers};
 
 use crate::lines::LINE;
-use arrayvec::ArrayVec;
 use refusal::Refusal;
 
 // The columns of a field.
 const FIELD: usize = 4;
 
 // The most fields of a line.
-const FIELDS: usize = LINE / FIELD;
+pub(crate) const FIELDS: usize = LINE / FIELD;
 
 // The number in a field: blanks, and then at least one digit. By digits: `parse` would take a sign, too.
 fn field_number(field: &[u8]) -> Option<u32>
@@ -32,15 +30,16 @@ fn field_number(field: &[u8]) -> Option<u32>
     Some(value)
 }
 
-// The numbers of a line's fields.
-pub(crate) fn read_numbers(line: &[u8]) -> Result<ArrayVec<u32, FIELDS>, Refusal>
-    requires { length line.now ≤ LINE }
-    ensures { result_map_both (λ v. v.items) (λ e. e) result ≡ asked (each_field line.now ∷ []) (all_numbers line.now) }
+// Reads the numbers of a line's fields to the front of a list, and says how many they are. It is no `ArrayVec`: what is
+// printed would rest on the statements of one more crate of the kit.
+pub(crate) fn read_numbers(line: &[u8], numbers: &mut [u32]) -> Result<usize, Refusal>
+    requires { length line.now ≤ 4 * length numbers.old }
+    ensures answer { result ≡ asked (each_field line.now ∷ []) (field_count line.now) }
+    ensures read { IfOk result (λ n. take n numbers.new ≡ all_numbers line.now) }
 {
-    let mut numbers = ArrayVec::new();
     for (place, field) in line.chunks(FIELD).enumerate() {
         let number = field_number(field).ok_or(Refusal::Text { place })?;
-        numbers.push(number);
+        numbers[place] = number;
     }
-    Ok(numbers)
+    Ok(line.len().div_ceil(FIELD))
 }

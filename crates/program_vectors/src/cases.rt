@@ -32,7 +32,7 @@ impl fmt::Display for Kind {
 }
 
 // Runs the case on a line. A kind is no `FromStr`: its name says which fields follow, so one match reads both.
-pub(crate) fn run(heap: Global, desk: &mut Desk, line: &str) -> anyhow::Result<(Kind, bool)> {
+pub(crate) fn run(heap: Global, line: &str) -> anyhow::Result<(Kind, bool)> {
     let fields: Vec<&str> = line.split(' ').collect(heap)?;
     match fields.as_slice() {
         ["crc", bits, value] => Ok((Kind::Check, agrees_check(heap, bits, value)?)),
@@ -41,8 +41,9 @@ pub(crate) fn run(heap: Global, desk: &mut Desk, line: &str) -> anyhow::Result<(
             let code = named(code)?;
             let mut start: Vec<Count> = numbers(heap, start)?.into_iter().map(Count).collect(heap)?;
             let delivery = Delivery::read(heap, symbols, plan)?;
+            let mut desk = Desk::new(heap)?;
             // a take that is refused differs, whatever state is asked for and whatever is wanted there
-            let Ok(run) = delivery.run(code, start.as_mut_slice(), desk) else {
+            let Ok(run) = delivery.run(code, start.as_mut_slice(), &mut desk) else {
                 return Ok((Kind::Count, false));
             };
             let wanted = value.parse::<u32>()?;
@@ -54,10 +55,11 @@ pub(crate) fn run(heap: Global, desk: &mut Desk, line: &str) -> anyhow::Result<(
         }
         ["paths", code, symbols, plan, state, value] => {
             let delivery = Delivery::read(heap, symbols, plan)?;
+            let mut desk = Desk::new(heap)?;
             let mut buffer = [Count(0); STATES];
             let mut counter = Counter::over(named(code)?, &mut buffer);
             // the same of a take that is refused
-            if delivery.count(&mut counter, desk).is_err() {
+            if delivery.count(&mut counter, &mut desk).is_err() {
                 return Ok((Kind::Paths, false));
             }
             let agrees = match counter.count(state.parse::<usize>()?) {

@@ -15,7 +15,7 @@ const WORK: usize = 36_864;
 // The states of k7, the larger code.
 pub(crate) const STATES: usize = 64;
 
-// What a take is lent.
+// What a take is lent. Each case that takes makes its own, so that a line of another kind needs no memory for it.
 #[derive(Drop)]
 pub struct Desk {
     work: Vec<Count>,

@@ -5,7 +5,6 @@ mod cases;
 mod counts;
 
 use cases::Kind;
-use counts::Desk;
 use std::collections::BTreeMap;
 use std::io::Read;
 use vectors::{Tally, is_case};
@@ -17,10 +16,9 @@ fn main(rt: HostRuntime) -> anyhow::Result<()> {
     let heap = rt.alloc();
     let mut input = String::new(heap);
     rt.stdin().take(BYTES).read_to_string(&mut input)?;
-    let mut desk = Desk::new(heap)?;
     let mut tallies = BTreeMap::new(heap);
     for line in input.as_str().lines().filter(|line| is_case(line)) {
-        let (kind, agrees) = cases::run(heap, &mut desk, line)?;
+        let (kind, agrees) = cases::run(heap, line)?;
         if !agrees {
             println!(rt; "differs: {line}")?;
         }

@@ -10,7 +10,7 @@ use thiserror::Error;
 pub enum FieldError {
     #[error("a field of bits has another character")]
     Character,
-    #[error("out of memory")]
+    #[error("memory allocation failed")]
     OutOfMemory,
 }
 

@@ -14,8 +14,8 @@ use Rattle.frame_metrics.proofs.Rooms.{may_parts, room_after, room_for}
 use Rattle.frame_metrics.proofs.Selects.{low_after, others_stay, total_is}
 use Rattle.frame_metrics.proofs.metrics.Metrics.select.Goals as goal
 
-pub invariant_of-self : goal.invariant_of-self
-invariant_of-self c =
+pub invariant_of-after : goal.invariant_of-after
+invariant_of-after c =
     let was = c.args.self.now in
     let d = c.args.d in
     let best = c.best_offers-best.result in

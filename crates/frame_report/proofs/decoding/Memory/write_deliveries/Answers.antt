@@ -1,6 +1,6 @@
 -- A turn gives one delivery to the frame and writes its line.
 use Rattle.frame_report.proofs.Turns.{going_more}
-use Rattle.frame_report.proofs.decoding.Decoder.write_deliveries.Goals as goal
+use Rattle.frame_report.proofs.decoding.Memory.write_deliveries.Goals as goal
 
 pub loop-delivery-preserved : goal.loop-delivery-preserved
 loop-delivery-preserved c =
