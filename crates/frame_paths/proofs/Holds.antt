@@ -43,6 +43,10 @@ SameRows c (r ∷ rs) [] = ⊥
 SameRows c (r ∷ rs) (s ∷ ss) = (r.steps ≡ s.steps) × ((j : ℕ) → j < states c → r.words j ≡ s.words j) × SameRows c rs ss
 
 module _ (c : Code) where
+  pub rows_same : (rs : List Row) → SameRows c rs rs
+  rows_same [] = tt
+  rows_same (r ∷ rs) = (refl, (λ j p. refl), rows_same rs)
+
   pub same_decoded : (rs ss : List Row) → SameRows c rs ss → (j : ℕ) → j < states c → decoded c rs j ≡ decoded c ss j
   same_decoded [] [] e j p = refl
   same_decoded [] (s ∷ ss) e j p = absurd e
